@@ -1,0 +1,5 @@
+use Rattle.plural_bytes.proofs.Numbered.{lines_rise}
+use Rattle.plural_bytes.proofs.laws.lines_rise.Goals as goal
+
+pub returns : goal.returns
+returns c = lines_rise

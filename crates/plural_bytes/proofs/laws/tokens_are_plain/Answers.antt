@@ -1,0 +1,5 @@
+use Rattle.plural_bytes.proofs.Plain.{tokens_are_plain}
+use Rattle.plural_bytes.proofs.laws.tokens_are_plain.Goals as goal
+
+pub returns : goal.returns
+returns c = tokens_are_plain

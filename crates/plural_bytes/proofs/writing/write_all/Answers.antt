@@ -1,0 +1,20 @@
+use Rattle.std.proofs.Common.{◌++◌, take, arith}
+use Rattle.plural_bytes.proofs.Known.{appends_more, front_more, cut_more}
+use Rattle.plural_bytes.proofs.writing.write_all.Goals as goal
+
+pub loop-rest-preserved : goal.loop-rest-preserved
+loop-rest-preserved g c =
+    let i = c.loop-rest.invariant in
+    let K = g.K.Sink in
+    let rest = c.loop-rest.rest.now in
+    let bytes = c.in-Ok.ensures.bytes in
+    record {
+      part = (i.part.0 ++ take c.in-Ok.n rest, cut_more c.args.text.now i.part.0 rest c.in-Ok.n i.part.1, appends_more (K.holds c.args.sink.now) (K.holds c.loop-rest.sink) (K.holds c.write.new.self) i.part.0 (take c.in-Ok.n rest) i.part.2 bytes);
+      later = omega (arith, i.later, c.write.ensures.cause.later);
+    }
+
+pub returns-in-Err-clause-err : goal.returns-in-Err-clause-err
+returns-in-Err-clause-err g c =
+    let i = c.loop-rest.invariant in
+    let K = g.K.Sink in
+    front_more (K.holds c.args.sink.now) (K.holds c.loop-rest.sink) (K.holds c.write.new.self) c.args.text.now i.part.0 c.loop-rest.rest.now i.part.1 i.part.2 c.in-Err.ensures.bytes

@@ -1,0 +1,11 @@
+pub mod Causes
+pub mod Streams
+pub mod InMemory
+pub mod Lines
+pub mod Numerals
+pub mod Names
+pub mod NameFields
+pub mod NameBack
+pub mod Faults
+pub mod Spelled
+pub mod Laws

@@ -1,0 +1,33 @@
+//! Bytes from outside and back, and the texts in them: sources and sinks, lines, numerals, names.
+//!
+//! Promise: what is read and written whole is exactly what the source had left and what the sink
+//! took, a fault is answered only where the count of faults of the object lent for the call rose
+//! (`specs/Streams.antt`, `specs/Causes.antt`), and the lines, tokens, numerals and names of a text
+//! are those of `specs/Lines.antt`, `specs/Numerals.antt` and `specs/Names.antt`, for every list of
+//! bytes.
+//!
+//! Stands on std alone. Every reader and printer of texts stands on it; what the faults of a
+//! section's lines are is stated here once for all of them (`specs/Faults.antt`).
+#![tactic(auto)]
+
+mod adapters;
+mod in_memory;
+pub mod laws;
+mod lines;
+mod names;
+mod numerals;
+mod outside;
+mod reading;
+mod writing;
+
+pub use adapters::{StdSink, StdSource};
+pub use in_memory::{MemSink, MemSource};
+pub use lines::{Line, content, find_blank, line_count, next_token, split, trim_start};
+pub use names::Name;
+pub use numerals::{NumberError, digits, number};
+pub use outside::{Failed, Memory, Sink, Source};
+pub use reading::{ReadError, read_all};
+pub use writing::{WriteFault, write_all};
+
+#[cfg(test)]
+mod tests;

@@ -1,0 +1,60 @@
+//! What can fail without any fault of an input: memory, where bytes come from, where they go.
+
+ghost use Rattle.std.specs.Prelude.{◌≡◌, ◌<◌, ◌≤◌, List, ℕ, Option, IfOk, length};
+ghost use Rattle.std.specs.Io.{ReadsAtMost};
+ghost use Rattle.plural_bytes.specs.Causes.{HasCause};
+ghost use Rattle.plural_bytes.specs.Streams.{Reads, Writes, IsPart};
+
+use std::alloc::{AllocError, AllocFailed};
+
+/// Memory ran out. Any call that takes memory may answer it.
+#[derive(Clone, Copy, Debug, PartialEq, Eq)]
+pub struct Memory;
+
+impl From<AllocError> for Memory {
+    fn from(_e: AllocError) -> Memory {
+        Memory
+    }
+}
+
+impl<T: Drop> From<AllocFailed<T>> for Memory {
+    fn from(_e: AllocFailed<T>) -> Memory {
+        Memory
+    }
+}
+
+/// A source or a sink failed in this call.
+#[derive(Clone, Copy, Debug, PartialEq, Eq)]
+pub struct Failed;
+
+/// Where bytes come from.
+pub trait Source {
+    /// The bytes still to come, `None` where the source doesn't tell them.
+    ghost left: { Self → Option (List ℕ) };
+
+    /// How often it has failed: a u64 that never falls and stays at its last value.
+    ghost faults: { Self → ℕ };
+
+    /// Fills a front of `into` with the next bytes, and answers how many. None come for an `into`
+    /// that isn't empty only at the end. A call that fails takes nothing.
+    fn read(&mut self, into: &mut [u8]) -> Result<usize, Failed>
+        ensures bound { ReadsAtMost result into.new }
+        ensures bytes { Reads (left self.old) (left self.new) result into.new }
+        ensures cause { HasCause (faults self.old) (faults self.new) result };
+}
+
+/// Where bytes go.
+pub trait Sink {
+    /// The bytes taken so far, `None` where the sink doesn't tell them.
+    ghost holds: { Self → Option (List ℕ) };
+
+    /// How often it has failed: a u64 that never falls and stays at its last value.
+    ghost faults: { Self → ℕ };
+
+    /// Takes a front of `from`, and answers its length: at least 1 where `from` isn't empty. A call
+    /// that fails has taken some front, which may be empty.
+    fn write(&mut self, from: &[u8]) -> Result<usize, Failed>
+        ensures bound { IfOk result (λ n. IsPart n from.now) }
+        ensures bytes { Writes (holds self.old) (holds self.new) result from.now }
+        ensures cause { HasCause (faults self.old) (faults self.new) result };
+}
