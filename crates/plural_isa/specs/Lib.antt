@@ -1,0 +1,6 @@
+pub mod Fields
+pub mod Table
+pub mod Decoding
+pub mod Encoding
+pub mod RegisterNames
+pub mod Laws
