@@ -1,0 +1,5 @@
+use Rattle.plural_regions.proofs.Regions.{reads_iff}
+use Rattle.plural_regions.proofs.laws.reads.Goals as goal
+
+pub returns : goal.returns
+returns c = λ regions k a. reads_iff regions k a

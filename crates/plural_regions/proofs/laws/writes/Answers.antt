@@ -1,0 +1,5 @@
+use Rattle.plural_regions.proofs.Regions.{writes_iff}
+use Rattle.plural_regions.proofs.laws.writes.Goals as goal
+
+pub returns : goal.returns
+returns c = λ regions k a. writes_iff regions k a

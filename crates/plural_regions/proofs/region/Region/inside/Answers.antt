@@ -1,0 +1,8 @@
+use Rattle.std.proofs.Common.{arith}
+use Rattle.plural_regions.proofs.region.Region.inside.Goals as goal
+
+pub returns-in_default-clause-inside : goal.returns-in_default-clause-inside
+returns-in_default-clause-inside c = λ k h. c.in-Some.ensures.outside.1 k (omega arith)
+
+pub returns-in_default-2-clause-inside : goal.returns-in_default-2-clause-inside
+returns-in_default-2-clause-inside c = λ k h. c.in_default.ensures.inside k
