@@ -1,0 +1,5 @@
+pub mod Shapes
+pub mod Misses
+pub mod Orders
+pub mod Loads
+pub mod Stores

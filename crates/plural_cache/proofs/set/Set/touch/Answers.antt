@@ -1,0 +1,5 @@
+use Rattle.plural_cache.proofs.Orders.{touched_first}
+use Rattle.plural_cache.proofs.set.Set.touch.Goals as goal
+
+pub returns-then-p-eq0 : goal.returns-then-p-eq0
+returns-then-p-eq0 c = λ x f. touched_first x c.args.p c.args.self.now c.if-p-eq0.true f

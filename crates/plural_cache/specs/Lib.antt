@@ -1,0 +1,4 @@
+pub mod Miss
+pub mod Lines
+pub mod Bus
+pub mod Cache

@@ -1,0 +1,47 @@
+//! A load access by the set of its line.
+ghost use Rattle.std.specs.Prelude.{◌≡◌, ℕ, ◌+◌, ◌*◌, ◌/◌, ◌%◌, ◌<◌, ◌≤◌, ◌^◌, length, true, false, slice_index, if◌then◌else◌};
+ghost use Rattle.plural_cache.specs.Bus.{Reads};
+ghost use Rattle.plural_cache.specs.Miss.{is_in};
+ghost use Rattle.plural_cache.specs.Lines.{keys, front};
+ghost use Rattle.plural_cache.specs.Cache.{loaded};
+
+use crate::bus::Bus;
+use crate::filling::fill;
+use crate::set::{Line, Set};
+
+/// What a load access answers.
+#[derive(Clone, Copy, Drop)]
+pub struct Loaded {
+    /// The word.
+    pub value: u32,
+    /// 1 where the access missed, else 0.
+    pub misses: u32,
+}
+
+/// A load access to word `a`, whose line belongs to `set`: a line that is absent is filled.
+pub fn load_in<B: Bus>(set: &mut Set, ways: usize, bus: &mut B, a: u32) -> Loaded
+    requires ways { (0 < ways) × (ways ≤ 4) }
+    requires sound { B.is_sound bus.old }
+    requires within { 8 * (a / 8) + 8 ≤ length (B.holds bus.old) }
+    requires room { B.reads bus.old < 2 ^ 61 }
+    ensures order { set.new ≡ loaded (is_in (a / 8) (keys set.old)) ways (a / 8) (front set.new) set.old }
+    ensures value { result.value ≡ slice_index (front set.new) (a % 8) }
+    ensures words { is_in (a / 8) (keys set.old) ≡ false → (w : ℕ) → w < 8 → B.lawful bus.old (8 * (a / 8) + w) ≡ true → slice_index (front set.new) w ≡ slice_index (B.holds bus.old) (8 * (a / 8) + w) }
+    ensures misses { result.misses ≡ (if is_in (a / 8) (keys set.old) then 0 else 1) }
+    ensures step { Reads B.holds B.lawful B.expects B.reads B.writes B.keeps B.is_sound (if is_in (a / 8) (keys set.old) then 0 else 8) bus.old bus.new }
+{
+    let line = a / 8;
+    let word = (a % 8) as usize;
+    if set.seek(line) {
+        return Loaded {
+            value: set.front_word(word),
+            misses: 0,
+        };
+    }
+    let words = fill(bus, line);
+    set.push(ways, Line { line, words });
+    Loaded {
+        value: words[word],
+        misses: 1,
+    }
+}
