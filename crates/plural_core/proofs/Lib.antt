@@ -1,0 +1,4 @@
+pub mod Effects
+pub mod Lives
+pub mod Footprint
+pub mod Guarded

@@ -1,0 +1,196 @@
+-- One turn after another.
+use Rattle.std.proofs.Common.{ℕ, zero, suc, ◌≡◌, ◌≢◌, ◌+◌, ◌-◌, ◌/◌, ◌%◌, ◌<◌, ◌≤◌, Bool, true, false, if◌then◌else◌, ◌==◌, nat_le, List, ◌++◌, length, drop-drop, Option, Some, None, arith, refl, sym, ap, ◌∙◌, subst, append_assoc, append-nil, length-append}
+use Rattle.std.proofs.Math.Seq.{drop-append_seam}
+use Rattle.std.proofs.Math.ListN.{length-set}
+use Rattle.std.proofs.lemmas.Bool.Decides.{nat_tests}
+use Rattle.plural_core.specs.Turn.{State, Place, Step, Core, outcome_of, turn, spent, does, trapped, loaded, stored, loads_of}
+use Rattle.plural_regions.specs.Rights.{may_read, may_write}
+use Rattle.plural_core.specs.Subword.{size_of}
+use Rattle.plural_core.specs.Act.{Act, act, get}
+use Rattle.plural_core.specs.Act as a
+use Rattle.plural_core.specs.Port.{Makes, Expects, Foresees, after}
+use Rattle.plural_core.specs.Life.{unless_over, life, join, stay}
+use Rattle.plural_core.specs.declared.end.End.{End}
+use Rattle.plural_core.specs.declared.hart.Turn.TheVariants as outcome
+use Rattle.plural_core.specs.declared.subword.Width.{Width}
+use Rattle.plural_core.specs.declared.subword.Width.TheVariants.{Byte, Half, Word}
+
+pub life_going : (n : ℕ) (p : Place) (s : State) (m : List ℕ) → s.over ≡ None → life (suc n) p s m ≡ join (turn p s m) (life n p (turn p s m).state (turn p s m).memory)
+unfolding life
+life_going n p s m h = rw h refl
+
+pub life_over : (n : ℕ) (p : Place) (s : State) (m : List ℕ) (e : End) → s.over ≡ Some e → life n p s m ≡ stay s m
+unfolding life
+life_over zero p s m e h = refl
+life_over (suc n) p s m e h = rw h refl
+
+-- a turn that goes on has counted one, and makes at most one access of each kind
+pub record IsFine (b : ℕ) (s : State) (m : List ℕ) (t : Step) : Type 0 where
+  pub below : t.state.over ≡ None → t.state.count ≢ b
+  pub goes : t.state.over ≡ None → t.state.count ≡ s.count + 1
+  pub few_loads : length t.loads ≤ 1
+  pub few_stores : length t.stores ≤ 1
+  pub words : length t.memory ≡ length m
+
+either : (n : ℕ) (s : State) (m : List ℕ) (b : Bool) (x y : Step) → IsFine n s m x → IsFine n s m y → IsFine n s m (if b then x else y)
+either n s m true x y h k = h
+either n s m false x y h k = k
+
+spent_same : (b c : ℕ) → c ≡ b → spent b c ≡ None → ⊥
+spent_same b c e h = let t : (c == b) ≡ true = grind (arith, nat_tests) in (let k = rw t at h in (cc))
+
+-- a count that is not spent is not the budget
+not_spent : (b c : ℕ) → spent b c ≡ None → c ≢ b
+not_spent b c h = λ e. absurd (spent_same b c e h)
+
+fine_trap : (b : ℕ) (s : State) (m : List ℕ) (cause : ℕ) → IsFine b s m (trapped s m cause)
+fine_trap b s m cause = record { below = λ h. cc; goes = λ h. cc; few_loads = omega arith; few_stores = omega arith; words = refl }
+
+few : (width : Width) (address : ℕ) → length (loads_of width address) ≤ 1
+few Byte address = omega arith
+few Half address = omega arith
+few Word address = omega arith
+
+fine_does : (p : Place) (s : State) (m : List ℕ) (act : Act) → IsFine p.budget s m (does p s m act)
+fine_does p s m (a.Go x pc) = record { below = not_spent p.budget (s.count + 1); goes = λ h. refl; few_loads = omega arith; few_stores = omega arith; words = refl }
+fine_does p s m (a.Read address width sign rd) =
+    either p.budget s m (address % size_of width == 0) (if may_read p.regions p.k (address / 4) then loaded p s m address width sign rd else trapped s m 5) (trapped s m 4)
+    (either p.budget s m (may_read p.regions p.k (address / 4)) (loaded p s m address width sign rd) (trapped s m 5)
+    (record { below = not_spent p.budget (s.count + 1); goes = λ h. refl; few_loads = omega arith; few_stores = omega arith; words = refl }) (fine_trap p.budget s m 5)) (fine_trap p.budget s m 4)
+fine_does p s m (a.Write address width value) =
+    either p.budget s m (address % size_of width == 0) (if may_write p.regions p.k (address / 4) then stored p s m address width value else trapped s m 7) (trapped s m 6)
+    (either p.budget s m (may_write p.regions p.k (address / 4)) (stored p s m address width value) (trapped s m 7)
+    (record { below = not_spent p.budget (s.count + 1); goes = λ h. refl; few_loads = few width address; few_stores = omega arith; words = length-set _ _ _ }) (fine_trap p.budget s m 7)) (fine_trap p.budget s m 6)
+fine_does p s m a.Finish =
+    either p.budget s m (nat_le (get s.registers 10) 1) _ (trapped s m 9) (record { below = λ h. cc; goes = λ h. cc; few_loads = omega arith; few_stores = omega arith; words = refl }) (fine_trap p.budget s m 9)
+fine_does p s m (a.Trap cause) = fine_trap p.budget s m cause
+
+pub fine_turn : (p : Place) (s : State) (m : List ℕ) → IsFine p.budget s m (turn p s m)
+unfolding turn
+fine_turn p s m = fine_does p s m (act p.code s.registers s.pc)
+
+pub after-after : (i j : ℕ) (e : Option (List (ℕ × ℕ))) → after j (after i e) ≡ after (i + j) e
+after-after i j None = refl
+after-after i j (Some stores) = ap Some (drop-drop j i stores)
+
+-- the accesses of two steps
+pub joined : {P : Type 0} {holds : P → List ℕ} {lawful : P → ℕ → Bool} {expects : P → Option (List (ℕ × ℕ))} {stands_for : P → List ℕ → Type 0} {loads stores : P → ℕ} {keeps : P → P → Type 0} {is_sound : P → Type 0} {x y z : P} → ((x y z : P) → keeps x y → keeps y z → keeps x z) → (d t : Step) → Makes holds lawful expects stands_for loads stores keeps is_sound x y d → Makes holds lawful expects stands_for loads stores keeps is_sound y z t → Makes holds lawful expects stands_for loads stores keeps is_sound x z (join d t)
+joined {expects} {x} both d t h k = record {
+  memory = k.memory;
+  law = k.law ∙ h.law;
+  rest = k.rest ∙ ap (after (length t.stores)) h.rest ∙ after-after (length d.stores) (length t.stores) (expects x) ∙ ap (λ n. after n (expects x)) (sym (length-append d.stores t.stores));
+  stands = λ l q. rw (← append_assoc) (k.stands (l ++ d.loads) (h.stands l q));
+  load_count = omega (arith, h.load_count, k.load_count, length-append d.loads t.loads);
+  store_count = omega (arith, h.store_count, k.store_count, length-append d.stores t.stores);
+  kept = both _ _ _ h.kept k.kept;
+  sound = k.sound;
+}
+
+pub join_assoc : (a b c : Step) → join (join a b) c ≡ join a (join b c)
+join_assoc a b c = rw (append_assoc, append_assoc) refl
+
+pub join_stay : (t : Step) → join t (stay t.state t.memory) ≡ t
+join_stay t = rw (append-nil, append-nil) refl
+
+-- a life of at least one turn
+pub life_split : (b : ℕ) (p : Place) (s : State) (m : List ℕ) → s.over ≡ None → s.count < b → life (b - s.count) p s m ≡ join (turn p s m) (life (b - (s.count + 1)) p (turn p s m).state (turn p s m).memory)
+life_split b p s m h l = let e : b - s.count ≡ suc (b - (s.count + 1)) = omega arith in rw e (life_going (b - (s.count + 1)) p s m h)
+
+-- one whose first turn goes on
+pub life_on : (b : ℕ) (p : Place) (s : State) (m : List ℕ) → s.over ≡ None → s.count < b → (turn p s m).state.over ≡ None → life (b - s.count) p s m ≡ join (turn p s m) (life (b - (turn p s m).state.count) p (turn p s m).state (turn p s m).memory)
+life_on b p s m h l g = let e = (fine_turn p s m).goes g in rw e (life_split b p s m h l)
+
+-- one whose first turn is the last
+pub life_last : (b : ℕ) (p : Place) (s : State) (m : List ℕ) (e : End) → s.over ≡ None → s.count < b → (turn p s m).state.over ≡ Some e → life (b - s.count) p s m ≡ turn p s m
+life_last b p s m e h l g =
+    life_split b p s m h l
+    ∙ ap (join (turn p s m)) (life_over (b - (s.count + 1)) p (turn p s m).state (turn p s m).memory e g)
+    ∙ join_stay (turn p s m)
+
+-- the stores expected begin with those of the first turn
+pub foreseen : (b : ℕ) (p : Place) (s : State) (m : List ℕ) (e : Option (List (ℕ × ℕ))) → s.over ≡ None → s.count < b → Expects e (life (b - s.count) p s m).stores → Foresees e (turn p s m).stores
+foreseen b p s m None h l x = tt
+foreseen b p s m (Some stores) h l x = ((life (b - (s.count + 1)) p (turn p s m).state (turn p s m).memory).stores, x ∙ ap (λ t. t.stores) (life_split b p s m h l))
+
+-- and go on with those of the rest
+pub expected_on : (b : ℕ) (p : Place) (s : State) (m : List ℕ) (e : Option (List (ℕ × ℕ))) → s.over ≡ None → s.count < b → (turn p s m).state.over ≡ None → Expects e (life (b - s.count) p s m).stores → Expects (after (length (turn p s m).stores) e) (life (b - (turn p s m).state.count) p (turn p s m).state (turn p s m).memory).stores
+expected_on b p s m None h l g x = tt
+expected_on b p s m (Some stores) h l g x =
+    rw (x ∙ ap (λ t. t.stores) (life_on b p s m h l g)) (drop-append_seam (turn p s m).stores _)
+
+after_none : (e : Option (List (ℕ × ℕ))) → e ≡ after 0 e
+after_none None = refl
+after_none (Some stores) = refl
+
+-- no accesses
+pub idle : {P : Type 0} (holds : P → List ℕ) (lawful : P → ℕ → Bool) (expects : P → Option (List (ℕ × ℕ))) (stands_for : P → List ℕ → Type 0) (loads stores : P → ℕ) (keeps : P → P → Type 0) (is_sound : P → Type 0) (x : P) (s : State) → keeps x x → is_sound x → Makes holds lawful expects stands_for loads stores keeps is_sound x x (stay s (holds x))
+idle holds lawful expects stands_for loads stores keeps is_sound x s none h = record {
+  memory = refl;
+  law = refl;
+  rest = after_none (expects x);
+  stands = λ l q. rw append-nil q;
+  load_count = omega arith;
+  store_count = omega arith;
+  kept = none;
+  sound = h;
+}
+
+-- a turn more, where the life goes on
+pub more : {P : Type 0} (holds : P → List ℕ) (lawful : P → ℕ → Bool) (expects : P → Option (List (ℕ × ℕ))) (stands_for : P → List ℕ → Type 0) (loads stores : P → ℕ) (keeps : P → P → Type 0) (is_sound : P → Type 0) (both : (x y z : P) → keeps x y → keeps y z → keeps x z) (x y z : P) (b : ℕ) (p : Place) (s : State) (d all : Step) →
+    s.over ≡ None → s.count < b → (turn p s (holds y)).state.over ≡ None →
+    Makes holds lawful expects stands_for loads stores keeps is_sound x y d → Makes holds lawful expects stands_for loads stores keeps is_sound y z (turn p s (holds y)) →
+    join d (life (b - s.count) p s (holds y)) ≡ all →
+    (e : Step) × Makes holds lawful expects stands_for loads stores keeps is_sound x z e × (join e (life (b - (turn p s (holds y)).state.count) p (turn p s (holds y)).state (holds z)) ≡ all)
+more holds lawful expects stands_for loads stores keeps is_sound both x y z b p s d all h l g made k q =
+    let t = turn p s (holds y) in (
+      join d t,
+      joined both d t made k,
+      rw k.memory (join_assoc d t (life (b - t.state.count) p t.state t.memory) ∙ ap (join d) (sym (life_on b p s (holds y) h l g)) ∙ q),
+    )
+
+-- the last turn
+pub last : {P : Type 0} (holds : P → List ℕ) (lawful : P → ℕ → Bool) (expects : P → Option (List (ℕ × ℕ))) (stands_for : P → List ℕ → Type 0) (loads stores : P → ℕ) (keeps : P → P → Type 0) (is_sound : P → Type 0) (both : (x y z : P) → keeps x y → keeps y z → keeps x z) (x y z : P) (b : ℕ) (p : Place) (s : State) (d all : Step) (e : End) →
+    s.over ≡ None → s.count < b → (turn p s (holds y)).state.over ≡ Some e →
+    Makes holds lawful expects stands_for loads stores keeps is_sound x y d → Makes holds lawful expects stands_for loads stores keeps is_sound y z (turn p s (holds y)) →
+    join d (life (b - s.count) p s (holds y)) ≡ all →
+    Makes holds lawful expects stands_for loads stores keeps is_sound x z all × (all.state ≡ (turn p s (holds y)).state)
+last {P} holds lawful expects stands_for loads stores keeps is_sound both x y z b p s d all e h l g made k q =
+    let t = turn p s (holds y) in
+    let same : join d t ≡ all = ap (join d) (sym (life_last b p s (holds y) e h l g)) ∙ q in
+    (subst (λ (a : Step). Makes holds lawful expects stands_for loads stores keeps is_sound x z a) same (joined both d t made k), ap (λ a. a.state) (sym same))
+
+pub going_none : (o : Option End) → outcome_of o ≡ outcome.Going → o ≡ None
+going_none None h = refl
+going_none (Some e) h = cc
+
+pub over_some : (o : Option End) (e : End) → outcome_of o ≡ outcome.Over e → o ≡ Some e
+over_some None e h = cc
+over_some (Some x) e h = cc
+
+pub core_is : (x : Core) (s : State) (k b : ℕ) → x.state ≡ s → x.k ≡ k → x.budget ≡ b → x ≡ record { state = s; k = k; budget = b }
+core_is x s k b p q r = rw (← p, ← q, ← r) refl
+
+kept : (o : Option End) (x y : Step) (m : List ℕ) → length x.memory ≡ length m → length y.memory ≡ length m → length (unless_over o x y).memory ≡ length m
+kept None x y m h k = h
+kept (Some e) x y m h k = k
+
+-- a life keeps the number of words
+pub words_kept : (n : ℕ) (p : Place) (s : State) (m : List ℕ) → length (life n p s m).memory ≡ length m
+unfolding life
+words_kept zero p s m = refl
+words_kept (suc n) p s m = kept s.over (join (turn p s m) (life n p (turn p s m).state (turn p s m).memory)) (stay s m) m (words_kept n p (turn p s m).state (turn p s m).memory ∙ (fine_turn p s m).words) refl
+
+-- the rest of a life that goes on, up to the budget, has an end
+pub life_ends : (n : ℕ) (p : Place) (s : State) (m : List ℕ) → s.over ≡ None → s.count + n ≡ p.budget → 0 < n → (e : End) × ((life n p s m).state.over ≡ Some e)
+life_ends zero p s m o c h = absurd (omega arith)
+life_ends (suc n) p s m o c h =
+    let t = turn p s m in
+    let split = ap (λ x. x.state.over) (life_going n p s m o) in
+    elim t.state.over as (λ x. t.state.over ≡ x → (e : End) × ((life (suc n) p s m).state.over ≡ Some e)) [
+      | Some e ↦ (λ q. (e, split ∙ ap (λ x. x.state.over) (life_over n p t.state t.memory e q) ∙ q))
+      | None ↦ (λ q.
+          let fine = fine_turn p s m in
+          let count = fine.goes q in
+          let r = life_ends n p t.state t.memory q (omega arith) (omega (arith, fine.below q)) in
+          (r.0, split ∙ r.1))
+    ] refl

@@ -1,0 +1,27 @@
+use Rattle.std.proofs.Common.{◌≡◌, ◌/◌, true, ap, rules}
+use Rattle.plural_regions.specs.Rights.{may_write}
+use Rattle.plural_regions.proofs.Regions.{may_read_from_write}
+use Rattle.plural_core.proofs.hart.Hart.write.Goals as goal
+use Rattle.plural_core.proofs.hart.Hart.write.Goals.{in-Word, in_default}
+
+pub load-requires : goal.load-requires
+load-requires g c =
+    let a = c.args.address / 4 in
+    let k_is = ap (λ v. v.k) c.self.view_is in
+    let allowed : may_write c.args.regions.now c.args.self.now.k a ≡ true = cc in
+    record {
+      sound = c.requires.sound;
+      lawful = c.requires.lawful a (may_read_from_write c.args.regions.now c.args.self.now.k a allowed);
+      room = search rules;
+    }
+
+pub store-requires-clause-within : goal.store-requires-clause-within
+store-requires-clause-within g c =
+    let a = c.args.address / 4 in
+    let k_is = ap (λ v. v.k) c.self.view_is in
+    let allowed : may_write c.args.regions.now c.args.self.now.k a ≡ true = cc in
+    let within = g.met.P.DataPort.within c.args.port.now a (c.requires.lawful a (may_read_from_write c.args.regions.now c.args.self.now.k a allowed)) in
+    elim c.match-width.branch [
+      | in-Word w ↦ rw w.port-is within
+      | in_default w ↦ rw (w.port-is, w.load.ensures.holds) within
+    ]

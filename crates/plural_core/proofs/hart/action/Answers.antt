@@ -1,0 +1,8 @@
+use Rattle.std.proofs.Common.{◌∙◌, ◌<◌, ◌^◌, sym, arith, rules}
+use Rattle.plural_core.proofs.Effects.{act_is}
+use Rattle.plural_core.proofs.hart.action.Goals as goal
+
+pub returns-in-Some : goal.returns-in-Some
+returns-in-Some c =
+    let fits : c.word.result < 2 ^ 32 = search rules in
+    c.execute.ensures ∙ sym (act_is c.args.code.now c.args.registers.now c.args.pc c.word.result c.in-Some.instr (omega arith) c.word.ensures fits (sym c.decode.ensures ∙ c.in-Some.is))

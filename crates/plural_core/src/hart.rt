@@ -1,0 +1,268 @@
+//! The core: one instance's registers, pc and count, and its turn.
+ghost use Rattle.std.specs.Prelude.{◌≡◌, ℕ, ◌+◌, ◌-◌, ◌*◌, ◌/◌, ◌%◌, ◌^◌, ◌<◌, ◌≤◌, List, length, Option, None, true, slice_index, EachIndex};
+ghost use Rattle.plural_regions.specs.Rights.{may_read, may_write};
+ghost use Rattle.plural_core.specs.Subword.{size_of};
+ghost use Rattle.plural_core.specs.Act.{get, put, act};
+ghost use Rattle.plural_core.specs.Execution.{seen};
+ghost use Rattle.plural_core.specs.Port.{Makes, Expects, Foresees};
+ghost use Rattle.plural_core.specs.Turn.{Core, State, going, trapped, finished, loaded, stored, place_of, turn_of, outcome_of};
+
+use crate::end::End;
+use crate::execute::{Action, execute, register};
+use crate::port::DataPort;
+use crate::subword::{Width, merged, part, size};
+use plural_isa::{Code, Reg, decode};
+use plural_regions::{Mode, Region};
+use std::marker::Model;
+
+/// What an instance begins with.
+#[derive(Clone, Copy, Debug, PartialEq, Eq)]
+pub struct Job {
+    /// The byte address of the first instruction, a multiple of 4.
+    pub entry: u32,
+    /// The instance's number, from 0: x10 at the start.
+    pub k: u32,
+    /// The task's quota: x11 at the start.
+    pub q: u32,
+    /// How many instructions may complete, 1 to 100,000,000.
+    pub budget: u32,
+}
+
+/// What a turn leads to.
+#[derive(Clone, Copy, Debug, PartialEq, Eq)]
+pub enum Turn {
+    /// The instance goes on.
+    Going,
+    /// The instance has ended.
+    Over(End),
+}
+
+/// A core that runs one instance, seen as its state, the instance's number and the budget.
+#[derive(Drop)]
+pub struct Hart {
+    registers: [u32; 32],
+    pc: u32,
+    count: u32,
+    over: Option<End>,
+    k: u32,
+    budget: u32,
+}
+
+impl Model for Hart {
+    ghost use Rattle.std.specs.Prelude.{◌≡◌, ◌≤◌, ◌<◌, Option, None};
+    ghost use Rattle.plural_core.specs.Turn.{Core};
+
+    ghost Value = { Core };
+
+    ghost view = { λ h. record { state = record { registers = h.registers; pc = h.pc; count = h.count; over = h.over }; k = h.k; budget = h.budget } };
+
+    ghost invariant = { λ h. (h.budget ≤ 100000000) × (h.count ≤ h.budget) × (h.over ≡ None → h.count < h.budget) };
+}
+
+/// The effect of the instruction at pc.
+#[tactic(auto, unfolding(crate::specs::Act::act))]
+fn action(code: &Code, registers: &[u32; 32], pc: u32) -> Action
+    ensures { seen registers.now result ≡ act code.now registers.now pc }
+{
+    if pc >= 4 * code.len() {
+        return Action::Trap { cause: 1 };
+    }
+    match decode(code.word(pc / 4)) {
+        None => Action::Trap { cause: 2 },
+        Some(instr) => execute(instr, registers, pc),
+    }
+}
+
+/// The guard of a load: whether some region has the word.
+fn may_read(regions: &[Region], k: u32, a: u32) -> bool
+    ensures { result ≡ may_read regions.now k a }
+{
+    regions.iter().any(|region| region.contains(k, a))
+}
+
+/// The guard of a store: whether some write region has the word.
+fn may_write(regions: &[Region], k: u32, a: u32) -> bool
+    ensures { result ≡ may_write regions.now k a }
+{
+    regions.iter().any(|region| region.mode == Mode::Write && region.contains(k, a))
+}
+
+impl Hart {
+    ghost use Rattle.std.specs.Prelude.{◌≡◌, ◌<◌, ◌≤◌, ◌+◌, ◌-◌, ℕ, true, List, [], length, None, Some, slice_index};
+    ghost use Rattle.plural_regions.specs.Rights.{may_read, may_write};
+    ghost use Rattle.plural_core.specs.Port.{Makes, Expects, Foresees};
+    ghost use Rattle.plural_core.specs.declared.end.End.TheVariants.{Trap as trap};
+    ghost use Rattle.plural_core.specs.Act.{put, act, Read, Write, Go, Finish};
+    ghost use Rattle.plural_core.specs.Arithmetic.{sum_of};
+    ghost use Rattle.plural_core.specs.Turn.{going, trapped, finished, outcome_of, place_of, does, turn_of, start_of};
+
+    /// The start of an instance: pc at the entry, x10 = k, x11 = q, all other registers 0.
+    pub fn start(job: Job) -> Hart
+        requires budget { 1 ≤ job.budget }
+        requires limit { job.budget ≤ 100000000 }
+        requires entry { job.entry % 4 ≡ 0 }
+        ensures { result ≡ start_of job.entry job.k job.q job.budget }
+    {
+        let mut registers = [0; 32];
+        registers[10] = job.k;
+        registers[11] = job.q;
+        Hart {
+            registers,
+            pc: job.entry,
+            count: 0,
+            over: None,
+            k: job.k,
+            budget: job.budget,
+        }
+    }
+
+    /// One instruction, as the model's turn over what the port holds. A trap changes nothing but the
+    /// end.
+    #[tactic(auto, unfolding(crate::specs::Turn::turn))]
+    pub fn turn<P: DataPort>(&mut self, code: &Code, regions: &[Region], port: &mut P) -> Turn
+        requires going { self.old.state.over ≡ None }
+        requires sound { P.is_sound port.old }
+        requires lawful { (a : ℕ) → may_read regions.now self.old.k a ≡ true → P.lawful port.old a ≡ true }
+        requires loads { P.loads port.old ≤ self.old.state.count }
+        requires stores { P.stores port.old ≤ self.old.state.count }
+        requires expected { Foresees (P.expects port.old) (turn_of code.now regions.now self.old (P.holds port.old)).stores }
+        ensures state { self.new ≡ record self.old { state = (turn_of code.now regions.now self.old (P.holds port.old)).state } }
+        ensures port { Makes P.holds P.lawful P.expects P.stands_for P.loads P.stores P.keeps P.is_sound port.old port.new
+            (turn_of code.now regions.now self.old (P.holds port.old)) }
+        ensures outcome { result ≡ outcome_of self.new.state.over }
+        ensures within { self.new.state.over ≡ None → self.new.state.count < self.new.budget }
+    {
+        match action(code, &self.registers, self.pc) {
+            Action::Go { rd, value, pc } => self.go(rd, value, pc),
+            Action::Read {
+                address,
+                width,
+                sign,
+                rd,
+            } => self.read(regions, port, address, width, sign, rd),
+            Action::Write {
+                address,
+                width,
+                value,
+            } => self.write(regions, port, address, width, value),
+            Action::Finish => self.finish(),
+            Action::Trap { cause } => self.trap(cause),
+        }
+        match self.over {
+            None => Turn::Going,
+            Some(end) => Turn::Over(end),
+        }
+    }
+
+    /// How many instructions have completed.
+    pub fn counted(&self) -> u32
+        ensures { result ≡ self.now.state.count }
+    {
+        self.count
+    }
+
+    /// An instruction completes: writes a register and goes to a pc.
+    fn go(&mut self, rd: Reg, value: u32, pc: u32)
+        requires { self.old.state.over ≡ None }
+        ensures { self.new ≡ record self.old { state = going (place_of [] [] self.old) self.old.state (put self.old.state.registers rd value) pc } }
+    {
+        let number = rd.number();
+        if number != 0 {
+            self.registers[number as usize] = value;
+        }
+        self.pc = pc;
+        self.count += 1;
+        if self.count == self.budget {
+            self.over = Some(End::Exhausted);
+        }
+    }
+
+    /// An instruction traps.
+    fn trap(&mut self, cause: u8)
+        requires { self.old.state.over ≡ None }
+        ensures { self.new ≡ record self.old { state = record self.old.state { over = Some (trap cause self.old.state.pc) } } }
+    {
+        self.over = Some(End::Trap { cause, pc: self.pc });
+    }
+
+    /// `ecall`.
+    fn finish(&mut self)
+        requires { self.old.state.over ≡ None }
+        ensures { self.new ≡ record self.old { state = (finished self.old.state []).state } }
+    {
+        let code = register(&self.registers, Reg::of(10));
+        if code > 1 {
+            self.over = Some(End::Trap {
+                cause: 9,
+                pc: self.pc,
+            });
+        } else {
+            self.count += 1;
+            self.over = Some(if code == 0 { End::Code0 } else { End::Code1 });
+        }
+    }
+
+    /// A load under the guard.
+    fn read<P: DataPort>(
+        &mut self,
+        regions: &[Region],
+        port: &mut P,
+        address: u32,
+        width: Width,
+        sign: bool,
+        rd: Reg,
+    )
+        requires going { self.old.state.over ≡ None }
+        requires sound { P.is_sound port.old }
+        requires lawful { (a : ℕ) → may_read regions.now self.old.k a ≡ true → P.lawful port.old a ≡ true }
+        requires loads { P.loads port.old ≤ self.old.state.count }
+        ensures state { self.new ≡ record self.old { state = (does (place_of [] regions.now self.old) self.old.state (P.holds port.old) (Read address width sign rd)).state } }
+        ensures port { Makes P.holds P.lawful P.expects P.stands_for P.loads P.stores P.keeps P.is_sound port.old port.new
+            (does (place_of [] regions.now self.old) self.old.state (P.holds port.old) (Read address width sign rd)) }
+    {
+        if address % size(width) != 0 {
+            self.trap(4);
+        } else if !may_read(regions, self.k, address / 4) {
+            self.trap(5);
+        } else {
+            let word = port.load(address / 4);
+            let value = part(width, sign, word, address);
+            let pc = self.pc.wrapping_add(4);
+            self.go(rd, value, pc);
+        }
+    }
+
+    /// A store under the guard; of less than a word it loads its word first.
+    fn write<P: DataPort>(
+        &mut self,
+        regions: &[Region],
+        port: &mut P,
+        address: u32,
+        width: Width,
+        value: u32,
+    )
+        requires going { self.old.state.over ≡ None }
+        requires sound { P.is_sound port.old }
+        requires lawful { (a : ℕ) → may_read regions.now self.old.k a ≡ true → P.lawful port.old a ≡ true }
+        requires loads { P.loads port.old ≤ self.old.state.count }
+        requires stores { P.stores port.old ≤ self.old.state.count }
+        requires expected { Foresees (P.expects port.old) (does (place_of [] regions.now self.old) self.old.state (P.holds port.old) (Write address width value)).stores }
+        ensures state { self.new ≡ record self.old { state = (does (place_of [] regions.now self.old) self.old.state (P.holds port.old) (Write address width value)).state } }
+        ensures port { Makes P.holds P.lawful P.expects P.stands_for P.loads P.stores P.keeps P.is_sound port.old port.new
+            (does (place_of [] regions.now self.old) self.old.state (P.holds port.old) (Write address width value)) }
+    {
+        if address % size(width) != 0 {
+            self.trap(6);
+        } else if !may_write(regions, self.k, address / 4) {
+            self.trap(7);
+        } else {
+            let word = match width {
+                Width::Word => value,
+                _ => merged(width, port.load(address / 4), address, value),
+            };
+            port.store(address / 4, word);
+            let pc = self.pc.wrapping_add(4);
+            self.go(Reg::of(0), 0, pc);
+        }
+    }
+}
