@@ -1,0 +1,54 @@
+-- A token that is no word, and the words of tokens one after the other.
+use Rattle.std.proofs.Common.{◌≡◌, ℕ, ◌^◌, ◌<◌, ◌≤◌, Bool, true, false, cond, leb, ltb, List, [], ◌∷◌, ◌++◌, length, Option, Some, None, Ok, Err, refl, ap, sym, ◌∙◌, arith, append_assoc}
+use Rattle.std.specs.Prelude.{option_map, option_and_then, ◌&&◌}
+use Rattle.std.specs.List.{list_all}
+use Rattle.std.specs.Char.{is_digit}
+use Rattle.std.proofs.lemmas.Bool.{and_parts, and_right, and_from, eq-eqb, le-leb, lt-leb, lt-ltb, le-ltb}
+use Rattle.std.proofs.lemmas.List.{append-nil}
+use Rattle.plural_bytes.specs.declared.numerals.NumberError.{NumberError}
+use Rattle.plural_bytes.specs.Numerals.{spelled, value_of, are_digits, within}
+use Rattle.plural_bytes.proofs.Valued.{value_below}
+use Rattle.plural_image.specs.Shape.{word_token, all_words, one_to_eight}
+
+no_range : (t : List ℕ) (b : Bool) (e : NumberError) → are_digits 16 t ≡ b → length t ≡ 8 → Err e ≡ within 4294967295 (cond b (Some (value_of 16 t)) None) → None ≡ cond b (Some (value_of 16 t)) None
+no_range t true e d len h =
+    let below = value_below 16 t (and_parts (ltb 0 (length t)) (list_all (λ c. is_digit c 16) t) d).1 in
+    let p : 16 ^ length t ≡ 4294967296 = rw len refl in
+    let fits = le-leb (value_of 16 t) 4294967295 (omega (arith, below, p)) in
+    let g : Err e ≡ Ok (value_of 16 t) = h ∙ rw fits refl in
+    absurd cc
+no_range t false e d len h = refl
+
+pub word_none : (t : List ℕ) (e : NumberError) → length t ≡ 8 → Err e ≡ within 4294967295 (spelled 16 t) → None ≡ word_token t
+word_none t e len h = rw (eq-eqb (length t) 8 len) (no_range t (are_digits 16 t) e refl len h)
+
+-- the words so far, and those that the tokens after them spell
+abbrev pub onto : List ℕ → Option (List ℕ) → Option (List ℕ)
+onto items o = option_map (λ ws. items ++ ws) o
+
+regroup : (items : List ℕ) (w : ℕ) (o : Option (List ℕ)) → onto items (option_map (λ ws. w ∷ ws) o) ≡ onto (items ++ w ∷ []) o
+regroup items w None = refl
+regroup items w (Some ws) = ap (λ (x : List ℕ). Some x) (simp append_assoc)
+
+pub onto_more : (items : List ℕ) (t : List ℕ) (ts all : List (List ℕ)) (w : ℕ) → word_token t ≡ Some w → onto items (all_words (t ∷ ts)) ≡ all_words all → onto (items ++ w ∷ []) (all_words ts) ≡ all_words all
+onto_more items t ts all w e h =
+    let one : all_words (t ∷ ts) ≡ option_map (λ ws. w ∷ ws) (all_words ts) = ap (option_and_then (λ v. option_map (λ ws. v ∷ ws) (all_words ts))) e in
+    sym (ap (onto items) one ∙ regroup items w (all_words ts)) ∙ h
+
+nothing : (b : Bool) (o : Option (List ℕ)) → o ≡ None → cond b o None ≡ None
+nothing true o e = e
+nothing false o e = refl
+
+pub onto_none : (items : List ℕ) (t : List ℕ) (ts all : List (List ℕ)) → word_token t ≡ None → onto items (all_words (t ∷ ts)) ≡ all_words all → None ≡ one_to_eight all
+onto_none items t ts all e h =
+    let one : all_words (t ∷ ts) ≡ None = ap (option_and_then (λ v. option_map (λ ws. v ∷ ws) (all_words ts))) e in
+    sym (nothing (ltb 0 (length all) && leb (length all) 8) (all_words all) (sym h ∙ ap (onto items) one))
+
+pub too_many : (all : List (List ℕ)) → 8 < length all → None ≡ one_to_eight all
+too_many all l = rw (and_right (ltb 0 (length all)) (leb (length all) 8) (lt-leb (length all) 8 l)) refl
+
+pub too_few : (all : List (List ℕ)) → length all ≡ 0 → None ≡ one_to_eight all
+too_few all l = rw (le-ltb 0 (length all) (omega (arith, l))) refl
+
+pub just_right : (items : List ℕ) (all : List (List ℕ)) → 0 < length all → length all ≤ 8 → onto items (all_words []) ≡ all_words all → Some items ≡ one_to_eight all
+just_right items all some few h = rw (and_from _ _ (lt-ltb 0 (length all) some) (le-leb (length all) 8 few)) (ap (λ (x : List ℕ). Some x) (sym (append-nil items)) ∙ h)

@@ -1,0 +1,5 @@
+use Rattle.plural_image.proofs.Printable.{lines_are_plain}
+use Rattle.plural_image.proofs.laws.lines_are_plain.Goals as goal
+
+pub returns : goal.returns
+returns c = lines_are_plain

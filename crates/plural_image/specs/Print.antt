@@ -1,0 +1,24 @@
+-- The printed image.
+use Rattle.std.specs.Prelude.{ℕ, zero, suc, ◌+◌, ◌*◌, ◌/◌, ◌%◌, List, [], ◌∷◌, ◌++◌, take, drop, length, flat_map, nat_lt, if◌then◌else◌, ◌==◌}
+use Rattle.std.specs.List.{list_all, range_with_len}
+
+-- The hexadecimal digit of a number below 16, in lower case.
+abbrev pub hex_digit : ℕ → ℕ
+hex_digit d = if nat_lt d 10 then 48 + d else 87 + d
+
+-- The last k hexadecimal digits of a number.
+abbrev pub hex_text : ℕ → ℕ → List ℕ
+hex_text zero n = []
+hex_text (suc k) n = hex_text k (n / 16) ++ hex_digit (n % 16) ∷ []
+
+-- An address and words as a line: eight digits and a colon, then a space and eight digits for each word.
+abbrev pub row_text : ℕ → List ℕ → List ℕ
+row_text a ws = (hex_text 8 a ++ 58 ∷ []) ++ flat_map (λ w. 32 ∷ hex_text 8 w) ws
+
+-- The line of a row with its LF; nothing where its words are all 0.
+abbrev pub row_lines : ℕ → List ℕ → List ℕ
+row_lines a ws = if list_all (λ w. w == 0) ws then [] else row_text a ws ++ 10 ∷ []
+
+-- The text of an image is the lines of its rows of eight words, by rising addresses.
+abbrev pub image_text : List ℕ → List ℕ
+image_text words = flat_map (λ r. row_lines (8 * r) (take 8 (drop (8 * r) words))) (range_with_len 0 (length words / 8))

@@ -1,0 +1,24 @@
+//! Images of the memory as text: image lines, read and printed.
+//!
+//! Promise: reading gives the words that the lines spell, or exactly their first fault
+//! (`specs/Image.antt`); printing gives the canonical lines (`specs/Print.antt`), which, read again,
+//! have no fault and spell the image (`laws::image_again`).
+//!
+//! Stands on `plural_bytes`. `plural_trace`, `plural_bundle` and `plural_cli` read and print images
+//! by it, and single words of eight hexadecimal digits.
+#![tactic(auto)]
+
+mod fault;
+mod hexadecimal;
+pub mod laws;
+mod print;
+mod read;
+mod shape;
+
+pub use fault::{ImageError, ImageKind};
+pub use hexadecimal::{hex, word_of};
+pub use print::print_image;
+pub use read::read_image;
+
+#[cfg(test)]
+mod tests;
