@@ -1,0 +1,126 @@
+-- The order of the tasks: each number in it was ready among those before it.
+use Rattle.std.proofs.Common.{◌≡◌, ℕ, zero, suc, ◌<◌, ◌≤◌, Bool, true, false, Some, None, Option, List, [], ◌∷◌, ◌++◌, length, get_or, take, refl, ap, ◌∙◌, subst, ⊎_elim, arith}
+use Rattle.std.specs.Prelude.{◌&&◌, ◌||◌, ◌==◌, slice_get, not, slice_index, is_some}
+use Rattle.std.specs.List.{range_with_len, list_all}
+use Rattle.std.specs.Option.{option_map_or}
+use Rattle.std.proofs.lemmas.List.{length_push, get_or_at, get_or_append_left, take-append-le, take_at}
+use Rattle.std.proofs.lemmas.Option.{slice_get_within, get_or_from_slice_get}
+use Rattle.std.proofs.Math.Bool.{or-false}
+use Rattle.std.proofs.lemmas.Bool.{cases_lt, eq-eqb}
+use Rattle.std.proofs.lemmas.List.Folds.{list_any-append}
+use Rattle.std.proofs.lemmas.List.FromFn.{get_or-range_with_len, length-range_with_len}
+use Rattle.std.proofs.lemmas.List.Quantifiers.{position-Some}
+use Rattle.plural_map.specs.declared.outcome.Outcome.{Outcome}
+use Rattle.plural_map.specs.Value.{TaskValue}
+use Rattle.plural_map.specs.Decisions.{outcome_at, HasPredecessors}
+use Rattle.plural_map.specs.Order.{is_among, has_all_done, is_ready, next_ready, order_from, order_of}
+
+-- ---- what it is to be ready
+
+both-left : (a b : Bool) → (a && b) ≡ true → a ≡ true
+both-left true b e = refl
+both-left false b e = absurd cc
+
+both-right : (a b : Bool) → (a && b) ≡ true → b ≡ true
+both-right true b e = e
+both-right false b e = absurd cc
+
+or-right : (a b : Bool) → b ≡ true → (a || b) ≡ true
+or-right true b e = refl
+or-right false b e = e
+
+not-true : (b : Bool) → not b ≡ true → b ≡ false
+not-true true e = absurd cc
+not-true false e = refl
+
+-- A number that is ready isn't among those done.
+pub ready_new : (tasks : List TaskValue) (done : List ℕ) (t : ℕ) → is_ready tasks done t ≡ true → is_among t done ≡ false
+ready_new tasks done t r = not-true _ (both-left _ _ r)
+
+-- A number that is ready is that of a task all of whose dependencies are among those done.
+pub ready_task : (tasks : List TaskValue) (done : List ℕ) (t : ℕ) → is_ready tasks done t ≡ true → (task : TaskValue) × (slice_get tasks t ≡ Some task) × (has_all_done done task ≡ true)
+ready_task tasks done t r = by_task (slice_get tasks t) refl (both-right (not (is_among t done)) _ r)
+  where
+    by_task : (o : Option TaskValue) → slice_get tasks t ≡ o → option_map_or (has_all_done done) o false ≡ true → (task : TaskValue) × (slice_get tasks t ≡ Some task) × (has_all_done done task ≡ true)
+    by_task None e h = absurd cc
+    by_task (Some task) e h = (task, e, h)
+
+-- A number that is ready is that of a task.
+pub ready_within : (tasks : List TaskValue) (done : List ℕ) (t : ℕ) → is_ready tasks done t ≡ true → t < length tasks
+ready_within tasks done t r = let h = ready_task tasks done t r in slice_get_within tasks t h.0 h.1
+
+-- The next number is ready.
+pub next_is_ready : (tasks : List TaskValue) (done : List ℕ) (t : ℕ) → next_ready tasks done ≡ Some t → is_ready tasks done t ≡ true
+next_is_ready tasks done t e =
+    let p = position-Some (is_ready tasks done) (range_with_len 0 (length tasks)) t 0 e in
+    let l : t < length tasks = rw length-range_with_len at p.0 in
+    let k : get_or (range_with_len 0 (length tasks)) t 0 ≡ t = omega (arith, get_or-range_with_len 0 (length tasks) t 0 l) in
+    subst (λ (u : ℕ). is_ready tasks done u ≡ true) k p.1
+
+-- ---- the order
+
+-- Each number of a list was ready among those before it.
+pub record IsOrdered (tasks : List TaskValue) (done : List ℕ) : Type 0 where
+  pub ready : (i : ℕ) → i < length done → is_ready tasks (take i done) (get_or done i 0) ≡ true
+
+-- One more number that is ready keeps a list ordered.
+pub ordered_push : (tasks : List TaskValue) (done : List ℕ) (t : ℕ) → IsOrdered tasks done → is_ready tasks done t ≡ true → IsOrdered tasks (done ++ t ∷ [])
+ordered_push tasks done t o r = record {
+  ready = λ i h. ⊎_elim (earlier i) (last i h) (cases_lt i (length done));
+}
+  where
+    earlier : (i : ℕ) → i < length done → is_ready tasks (take i (done ++ t ∷ [])) (get_or (done ++ t ∷ []) i 0) ≡ true
+    earlier i l = rw (take-append-le i done (t ∷ []) (omega arith), get_or_append_left done (t ∷ []) 0 i l) (o.ready i l)
+
+    last : (i : ℕ) → i < length (done ++ t ∷ []) → length done ≤ i → is_ready tasks (take i (done ++ t ∷ [])) (get_or (done ++ t ∷ []) i 0) ≡ true
+    last i h l =
+        let e : length done ≡ i = omega (arith, length_push done t) in
+        rw (take_at done (t ∷ []) i e, get_or_at done t [] 0 i e) r
+
+-- Going on from an ordered list keeps it ordered.
+pub order_from_ordered : (fuel : ℕ) (tasks : List TaskValue) (done : List ℕ) → IsOrdered tasks done → IsOrdered tasks (order_from fuel tasks done)
+unfolding order_from
+order_from_ordered zero tasks done o = o
+order_from_ordered (suc fuel) tasks done o = by_next (next_ready tasks done) refl (λ t. order_from_ordered fuel tasks (done ++ t ∷ []))
+  where
+    by_next : (n : Option ℕ) → next_ready tasks done ≡ n → ((t : ℕ) → IsOrdered tasks (done ++ t ∷ []) → IsOrdered tasks (order_from fuel tasks (done ++ t ∷ [])))
+        → IsOrdered tasks (option_map_or (λ t. order_from fuel tasks (done ++ t ∷ [])) n done)
+    by_next None e more = o
+    by_next (Some t) e more = more t (ordered_push tasks done t o (next_is_ready tasks done t e))
+
+-- Each number of the order is ready among those before it.
+pub order_ready : (tasks : List TaskValue) (i : ℕ) → i < length (order_of tasks) → is_ready tasks (take i (order_of tasks)) (slice_index (order_of tasks) i) ≡ true
+order_ready tasks i h = (order_from_ordered (length tasks) tasks [] (record { ready = λ i h. absurd (omega arith) })).ready i h
+
+-- Each number of the order is that of a task.
+pub order_within : (tasks : List TaskValue) (i : ℕ) → i < length (order_of tasks) → slice_index (order_of tasks) i < length tasks
+order_within tasks i h = ready_within tasks (take i (order_of tasks)) (slice_index (order_of tasks) i) (order_ready tasks i h)
+
+-- No number of the order stands before itself.
+pub order_new : (tasks : List TaskValue) (i : ℕ) → i < length (order_of tasks) → is_among (slice_index (order_of tasks) i) (take i (order_of tasks)) ≡ false
+order_new tasks i h = ready_new tasks (take i (order_of tasks)) (slice_index (order_of tasks) i) (order_ready tasks i h)
+
+-- ---- numbers among those done
+
+-- A test that passes wherever another does passes at all elements of a list where the other does.
+pub list_all_weaker : {X : Type 0} (p q : X → Bool) (xs : List X) → ((x : X) → p x ≡ true → q x ≡ true) → list_all p xs ≡ true → list_all q xs ≡ true
+list_all_weaker p q [] h a = refl
+list_all_weaker p q (x ∷ xs) h a = rw (h x (both-left (p x) (list_all p xs) a), list_all_weaker p q xs h (both-right (p x) (list_all p xs) a)) refl
+
+-- The element at a place of a list is among its elements.
+pub among_at : (done : List ℕ) (i : ℕ) → i < length done → is_among (get_or done i 0) done ≡ true
+among_at [] i h = absurd (omega arith)
+among_at (u ∷ done) zero h = ap (λ b. b || is_among u done) (eq-eqb u u refl)
+among_at (u ∷ done) (suc i) h = or-right (u == get_or done i 0) (is_among (get_or done i 0) done) (among_at done i (omega arith))
+
+-- A number is among those done and one more where it is among those done or is that one.
+pub among_push : (done : List ℕ) (t u : ℕ) → is_among u (done ++ t ∷ []) ≡ (is_among u done || (t == u))
+among_push done t u = list_any-append (λ v. v == u) done (t ∷ []) ∙ ap (λ b. is_among u done || b) (or-false (t == u))
+
+-- Where all those done have outcomes, the predecessors of a task that is ready do.
+pub predecessors_done : (tasks : List TaskValue) (done : List ℕ) (t : ℕ) (d : TaskValue) (outcomes : List (Option Outcome)) → is_ready tasks done t ≡ true
+    → ((u : ℕ) → is_among u done ≡ true → is_some (outcome_at outcomes u) ≡ true) → HasPredecessors (get_or tasks t d) outcomes
+predecessors_done tasks done t d outcomes r all =
+    let h = ready_task tasks done t r in
+    let e : get_or tasks t d ≡ h.0 = get_or_from_slice_get tasks t h.0 d h.1 in
+    rw e (list_all_weaker (λ p. is_among p.task done) (λ p. is_some (outcome_at outcomes p.task)) h.0.deps (λ p. all p.task) h.2)

@@ -1,0 +1,5 @@
+use Rattle.plural_map.proofs.Declared.{declared_order}
+use Rattle.plural_map.proofs.laws.declared_order.Goals as goal
+
+pub returns : goal.returns
+returns c = declared_order
