@@ -1,0 +1,6 @@
+use Rattle.std.proofs.Common.{sym}
+use Rattle.plural_asm.proofs.Placed.{noted_false}
+use Rattle.plural_asm.proofs.places.note_label.Goals as goal
+
+pub returns-in-None : goal.returns-in-None
+returns-in-None c = λ q. rw c.in-None.is (sym (noted_false _ c.args.place))

@@ -1,0 +1,71 @@
+//! A kernel line, and the names that lines have as labels.
+
+ghost use Rattle.std.specs.Prelude.{◌≡◌, ◌≤◌, ◌<◌, ℕ, Some, None, MatchOption, IfOk, position};
+ghost use Rattle.plural_bytes.specs.Spelled.{text_lines};
+ghost use Rattle.plural_asm.specs.Operands.{halves};
+ghost use Rattle.plural_asm.specs.Statement.{is_colon, label_split, label_of, unlabelled, line_of};
+ghost use Rattle.plural_asm.specs.Labels.{names_of};
+
+use crate::instruction::instruction;
+use crate::statement::KernelLine;
+use plural_bytes::{Line, Memory, Name};
+use std::alloc::Global;
+
+fn find_colon(text: &[u8]) -> Option<usize>
+    ensures { result ≡ position is_colon text.now }
+{
+    text.iter().position(|c| *c == b':')
+}
+
+/// The name that a text begins with directly before a colon, and what stands behind that colon.
+fn label_split(text: &[u8]) -> Option<(Name, &[u8])>
+    ensures { MatchOption result (label_split text.now ≡ None) (λ r. label_split text.now ≡ Some (r.0, r.1.now)) }
+{
+    match find_colon(text) {
+        Some(i) => match Name::of(&text[..i]) {
+            Some(name) => Some((name, &text[i + 1..])),
+            None => None,
+        },
+        None => None,
+    }
+}
+
+fn label_of(text: &[u8]) -> Option<Name>
+    ensures { result ≡ label_of text.now }
+{
+    match label_split(text) {
+        Some((name, _)) => Some(name),
+        None => None,
+    }
+}
+
+/// A kernel line: its label, and its instruction where it has the shape of one.
+pub(crate) fn line_of(text: &[u8]) -> KernelLine
+    ensures { result ≡ line_of text.now }
+{
+    match label_split(text) {
+        Some((name, rest)) => KernelLine {
+            label: Some(name),
+            statement: instruction(rest),
+        },
+        None => KernelLine {
+            label: None,
+            statement: instruction(text),
+        },
+    }
+}
+
+/// The names at the label positions of lines, in order, repeats included: a line has one where it
+/// begins with a name directly followed by a colon.
+pub fn names(alloc: Global, lines: &[Line<'_>]) -> Result<Vec<Name>, Memory>
+    ensures { IfOk result (λ v. v.items ≡ names_of (text_lines lines.now)) }
+{
+    let mut names = Vec::new(alloc);
+    for line in lines {
+        match label_of(line.text) {
+            Some(name) => names.push(name)?,
+            None => {}
+        }
+    }
+    Ok(names)
+}

@@ -1,0 +1,126 @@
+//! The offset of a target from a place.
+
+ghost use Rattle.std.specs.Prelude.{◌≡◌, ◌≤◌, ◌%◌, ℕ, Some, None, List};
+ghost use Rattle.std.specs.BTreeMap.{get_by};
+ghost use Rattle.std.specs.Cmp.Lexicographic.{slice_cmp};
+ghost use Rattle.std.specs.Ordering.{nat_cmp};
+ghost use Rattle.plural_isa.specs.Encoding.{IsOffset};
+ghost use Rattle.plural_asm.specs.declared.statement.Target.TheVariants as target;
+ghost use Rattle.plural_asm.specs.Words.{is_near, reaches, offset_in, offset_at, IsReached, target_offset};
+
+use crate::statement::{Statement, Target};
+use plural_bytes::Name;
+use std::collections::BTreeMap;
+
+/// How far a jump and a branch reach: from `-half` to `half - 2`, in bytes.
+pub(crate) const JUMP_HALF: u32 = 1_048_576;
+
+pub(crate) const BRANCH_HALF: u32 = 4096;
+
+/// The offset of a target.
+#[derive(Clone, Copy, Debug)]
+pub enum Offset {
+    /// The target's name is no label.
+    Unknown,
+    /// The offset is out of the instruction's range, or odd.
+    Far,
+    /// The offset, in bytes.
+    At { bytes: i32 },
+}
+
+fn is_near(n: u64, half: u32, parity: u64) -> bool
+    ensures { result ≡ is_near n half parity }
+{
+    n < u64::from(half) && n % 2 == parity
+}
+
+fn reaches(bytes: i64, half: u32) -> bool
+    ensures { result ≡ reaches half bytes }
+{
+    if bytes < 0 {
+        is_near((-1 - bytes) as u64, half, 1)
+    } else {
+        is_near(bytes as u64, half, 0)
+    }
+}
+
+fn offset_in(bytes: i64, half: u32) -> Offset
+    requires even { half % 2 ≡ 0 }
+    requires half { half ≤ 1048576 }
+    ensures value { result ≡ offset_in half bytes }
+    ensures reached { IsReached half result }
+{
+    if reaches(bytes, half) {
+        Offset::At {
+            bytes: bytes as i32,
+        }
+    } else {
+        Offset::Far
+    }
+}
+
+fn place_at(places: &BTreeMap<Name, u32>, name: Name) -> Option<u32>
+    ensures { result ≡ get_by (λ k. slice_cmp nat_cmp name k) places.now }
+{
+    places.get(&name).copied()
+}
+
+fn numeral_offset(bytes: Option<i32>, half: u32) -> Offset
+    requires even { half % 2 ≡ 0 }
+    requires half { half ≤ 1048576 }
+    ensures value { result ≡ offset_at (λ q. None) 0 half (target.Offset bytes) }
+    ensures reached { IsReached half result }
+{
+    match bytes {
+        None => Offset::Far,
+        Some(bytes) => offset_in(i64::from(bytes), half),
+    }
+}
+
+fn label_offset(places: &BTreeMap<Name, u32>, here: u32, half: u32, name: Name) -> Offset
+    requires even { half % 2 ≡ 0 }
+    requires half { half ≤ 1048576 }
+    ensures value { result ≡ offset_at (λ q. get_by (λ k. slice_cmp nat_cmp q k) places.now) here half (target.Label name) }
+    ensures reached { IsReached half result }
+{
+    match place_at(places, name) {
+        None => Offset::Unknown,
+        Some(place) => offset_in(4 * i64::from(place) - 4 * i64::from(here), half),
+    }
+}
+
+/// The offset of a target from the place `here`, in words, for an instruction that reaches from
+/// `-half` to `half - 1` bytes.
+pub(crate) fn offset_at(
+    places: &BTreeMap<Name, u32>,
+    here: u32,
+    half: u32,
+    target: Target,
+) -> Offset
+    requires even { half % 2 ≡ 0 }
+    requires half { half ≤ 1048576 }
+    ensures value { result ≡ offset_at (λ q. get_by (λ k. slice_cmp nat_cmp q k) places.now) here half target }
+    ensures reached { IsReached half result }
+{
+    match target {
+        Target::Offset { bytes } => numeral_offset(bytes, half),
+        Target::Label { name } => label_offset(places, here, half, name),
+    }
+}
+
+/// The offset of an instruction's target, if it has a target.
+pub(crate) fn target_offset(
+    places: &BTreeMap<Name, u32>,
+    here: u32,
+    statement: Option<Statement>,
+) -> Option<Offset>
+    ensures { result ≡ target_offset (λ q. get_by (λ k. slice_cmp nat_cmp q k) places.now) here statement }
+{
+    match statement {
+        Some(Statement::Jump { target, .. }) => { Some(offset_at(places, here, JUMP_HALF, target)) }
+        Some(Statement::Branch { target, .. }) => {
+            Some(offset_at(places, here, BRANCH_HALF, target))
+        }
+        _ => None,
+    }
+}
