@@ -1,0 +1,9 @@
+pub use Rattle.plural_core.specs.Turn
+pub use Rattle.plural_core.specs.Life
+pub use Rattle.plural_map.specs.Value
+pub use Rattle.plural_map.specs.Limits
+pub use Rattle.plural_map.specs.Decisions
+pub mod Words
+pub mod Program
+pub mod Serial
+pub mod Answer
