@@ -1,0 +1,9 @@
+pub use Rattle.plural_bytes.specs.Names
+pub use Rattle.plural_bytes.specs.Numerals
+pub use Rattle.plural_image.specs.Print
+pub use Rattle.plural_isa.specs.Fields
+pub use Rattle.plural_isa.specs.Table
+pub mod Supported
+pub mod OneTask
+pub mod Reading
+pub mod Program
