@@ -1,0 +1,4 @@
+pub mod Outcomes
+pub mod Listed
+pub mod Worded
+pub mod Inputs

@@ -1,0 +1,11 @@
+use Rattle.std.proofs.Common.{ℕ, List, subst}
+use Rattle.plural_cli.specs.Output.{Answers}
+use Rattle.plural_cli.proofs.Inputs.{whole_input}
+use Rattle.plural_cli.proofs.input.read_answer.Goals as goal
+
+pub returns-in-Ok-answer_to-clause-answer : goal.returns-in-Ok-answer_to-clause-answer
+returns-in-Ok-answer_to-clause-answer g c =
+    let left = g.S.Source.left in
+    let a = c.in-Ok-answer_to.answer in
+    whole_input c.args.command (left c.args.source.now) (left c.read_all.new.source) c.in-Ok.bytes.items a.status a.text.items c.in-Ok.ensures.all c.in-Ok.ensures.end c.in-Ok.ensures.short
+    (subst (λ (bytes : List ℕ). Answers c.args.command bytes a.status a.text.items) c.deref.ensures.value c.in-Ok-answer_to.ensures.answer)
