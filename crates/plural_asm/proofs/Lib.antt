@@ -1,5 +1,11 @@
-pub mod Pieces
 pub mod Listed
 pub mod Placed
 pub mod Checked
 pub mod Joined
+pub mod Plain
+pub mod Decimals
+pub mod Lined
+pub mod Spelled
+pub mod Shapes
+pub mod Texts
+pub mod Again

@@ -7,11 +7,11 @@ use Rattle.std.proofs.lemmas.List.Sums.{sum_by-append}
 use Rattle.plural_bytes.specs.Lines.{TextLine}
 use Rattle.plural_bytes.specs.declared.lines.Line.{Line}
 use Rattle.plural_bytes.specs.Spelled.{text_line, text_lines}
-use Rattle.plural_asm.specs.Statement.{label_of, line_of}
+use Rattle.plural_statement.specs.Statement.{label_of, line_of}
 use Rattle.plural_asm.specs.Labels.{names_of, is_short, li_size, words_in, size_of, place_after, place_of}
 use Rattle.plural_asm.specs.Words.{li_words, words_at, gathered, code_of}
-use Rattle.plural_asm.specs.declared.statement.Statement.{Statement}
-use Rattle.plural_asm.specs.declared.statement.Statement.TheVariants.{Nothing, Known, Li, Jump, Branch}
+use Rattle.plural_statement.specs.declared.statement.Statement.{Statement}
+use Rattle.plural_statement.specs.declared.statement.Statement.TheVariants.{Nothing, Known, Li, Jump, Branch}
 
 onto : {Y : Type 0} (o : Option Y) (xs ys : List Y) → cons_option o (xs ++ ys) ≡ cons_option o xs ++ ys
 onto None xs ys = refl
@@ -26,7 +26,7 @@ pub names_more : (xs : List Line) (i : ℕ) (d : Line) (o : Option (List ℕ)) �
 names_more xs i d o l e = rw e (ap names_of (map_more text_line xs i d l) ∙ filter_map-push (λ l. label_of l.1) (text_lines (take i xs)) (text_line (get_or xs i d) ∷ []))
 
 -- the place after a first line and others
-place_first : (l : TextLine) (ls : List TextLine) → place_after (l ∷ ls) ≡ size_of l.1 + place_after ls
+pub place_first : (l : TextLine) (ls : List TextLine) → place_after (l ∷ ls) ≡ size_of l.1 + place_after ls
 place_first l ls = sum_by-append (λ x. size_of x.1) (l ∷ []) ls ∙ omega arith
 
 -- what one more line gives

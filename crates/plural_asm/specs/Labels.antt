@@ -2,9 +2,9 @@
 use Rattle.std.specs.Prelude.{ℕ, ◌%◌, Bool, false, ◌||◌, List, Option, Some, None, take, sum_by, position, option_map, bytes_eq, nat_lt, nat_le, if◌then◌else◌, ◌==◌}
 use Rattle.std.specs.List.{filter_map}
 use Rattle.plural_bytes.specs.Lines.{TextLine}
-use Rattle.plural_asm.specs.Statement.{label_of, line_of}
-use Rattle.plural_asm.specs.declared.statement.Statement.{Statement}
-use Rattle.plural_asm.specs.declared.statement.Statement.TheVariants.{Nothing, Known, Li, Jump, Branch}
+use Rattle.plural_statement.specs.Statement.{label_of, line_of}
+use Rattle.plural_statement.specs.declared.statement.Statement.{Statement}
+use Rattle.plural_statement.specs.declared.statement.Statement.TheVariants.{Nothing, Known, Li, Jump, Branch}
 
 -- the names at the label positions of lines
 abbrev pub names_of : List TextLine → List (List ℕ)

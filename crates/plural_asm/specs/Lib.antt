@@ -1,7 +1,6 @@
-pub mod Mnemonics
-pub mod Operands
-pub mod Statement
+pub use Rattle.plural_statement.specs.Statement
 pub mod Labels
 pub mod Words
 pub mod Rules
 pub mod WordText
+pub mod Laws

@@ -2,12 +2,12 @@
 use Rattle.std.specs.Prelude.{◌≡◌, ℕ, ◌+◌, ◌≤◌, Bool, true, false, ◌||◌, ◌&&◌, List, Option, Some, None, MatchOption, ⊤, length, is_some, is_none, nat_lt, nat_le}
 use Rattle.plural_bytes.specs.Lines.{TextLine}
 use Rattle.plural_bytes.specs.Faults.{IsFirstFault}
-use Rattle.plural_asm.specs.Statement.{line_of}
+use Rattle.plural_statement.specs.Statement.{line_of}
 use Rattle.plural_asm.specs.Labels.{words_in, place_after, place_of}
 use Rattle.plural_asm.specs.Words.{target_offset, labels_of}
-use Rattle.plural_asm.specs.declared.statement.Statement.{Statement}
-use Rattle.plural_asm.specs.declared.statement.Statement.TheVariants.{Nothing, Known, Li, Jump, Branch}
-use Rattle.plural_asm.specs.declared.statement.KernelLine.{KernelLine}
+use Rattle.plural_statement.specs.declared.statement.Statement.{Statement}
+use Rattle.plural_statement.specs.declared.statement.Statement.TheVariants.{Nothing, Known, Li, Jump, Branch}
+use Rattle.plural_statement.specs.declared.statement.KernelLine.{KernelLine}
 use Rattle.plural_asm.specs.declared.offset.Offset.{Offset}
 use Rattle.plural_asm.specs.declared.offset.Offset.TheVariants.{Unknown, Far, At}
 use Rattle.plural_asm.specs.declared.object.AsmKind.{AsmKind}

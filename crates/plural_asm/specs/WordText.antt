@@ -5,9 +5,9 @@ use Rattle.plural_isa.specs.Decoding.{decoded}
 use Rattle.plural_isa.specs.RegisterNames.{plain_name}
 use Rattle.plural_isa.specs.declared.instr.Instr.{Instr}
 use Rattle.plural_isa.specs.declared.instr.Instr.TheVariants as instr
-use Rattle.plural_asm.specs.Mnemonics.{mnemonic_text}
-use Rattle.plural_asm.specs.declared.mnemonics.Mnemonic.{Mnemonic}
-use Rattle.plural_asm.specs.declared.mnemonics.Mnemonic.TheVariants as m
+use Rattle.plural_statement.specs.Mnemonics.{mnemonic_text}
+use Rattle.plural_statement.specs.declared.mnemonics.Mnemonic.{Mnemonic}
+use Rattle.plural_statement.specs.declared.mnemonics.Mnemonic.TheVariants as m
 
 -- a mnemonic and the blank before its first operand
 abbrev pub head_text : Mnemonic → List ℕ

@@ -7,12 +7,12 @@ use Rattle.plural_isa.specs.Encoding.{word_of, IsOffset}
 use Rattle.plural_isa.specs.declared.instr.Instr.TheVariants as instr
 use Rattle.plural_isa.specs.declared.instr.BranchOp.{BranchOp}
 use Rattle.plural_isa.specs.declared.instr.ImmOp.TheVariants as imm
-use Rattle.plural_asm.specs.Statement.{label_of, line_of}
+use Rattle.plural_statement.specs.Statement.{label_of, line_of}
 use Rattle.plural_asm.specs.Labels.{is_short, size_of, place_of}
-use Rattle.plural_asm.specs.declared.statement.Target.{Target}
-use Rattle.plural_asm.specs.declared.statement.Target.TheVariants as target
-use Rattle.plural_asm.specs.declared.statement.Statement.{Statement}
-use Rattle.plural_asm.specs.declared.statement.Statement.TheVariants.{Nothing, Known, Li, Jump, Branch}
+use Rattle.plural_statement.specs.declared.statement.Target.{Target}
+use Rattle.plural_statement.specs.declared.statement.Target.TheVariants as target
+use Rattle.plural_statement.specs.declared.statement.Statement.{Statement}
+use Rattle.plural_statement.specs.declared.statement.Statement.TheVariants.{Nothing, Known, Li, Jump, Branch}
 use Rattle.plural_asm.specs.declared.offset.Offset.{Offset}
 use Rattle.plural_asm.specs.declared.offset.Offset.TheVariants.{Unknown, Far, At}
 use Rattle.plural_asm.specs.declared.object.Label.{Label}

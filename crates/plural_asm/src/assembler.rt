@@ -6,7 +6,6 @@ ghost use Rattle.plural_bytes.specs.Faults.{IsFaultless};
 ghost use Rattle.plural_asm.specs.Words.{code_of, labels_of};
 ghost use Rattle.plural_asm.specs.Rules.{Breaks, Faults};
 
-use crate::line::line_of;
 use crate::object::{AsmError, Object};
 use crate::offset::target_offset;
 use crate::places::{note_label, places, words_in};
@@ -14,6 +13,7 @@ use crate::verdict::verdict;
 use crate::words::{put_label, put_words};
 use plural_bytes::Line;
 use plural_isa::Code;
+use plural_statement::line_of;
 use std::alloc::Global;
 use std::collections::BTreeMap;
 

@@ -4,12 +4,12 @@ ghost use Rattle.std.specs.Prelude.{◌≡◌, ◌<◌, ◌≤◌, ◌++◌, ◌
 ghost use Rattle.std.specs.Fmt.{signed_decimal};
 ghost use Rattle.plural_isa.specs.RegisterNames.{plain_name};
 ghost use Rattle.plural_isa.specs.declared.instr.Instr.TheVariants as instr;
-ghost use Rattle.plural_asm.specs.Mnemonics.{mnemonic_text};
+ghost use Rattle.plural_statement.specs.Mnemonics.{mnemonic_text};
 ghost use Rattle.plural_asm.specs.WordText.{head_text, reg_number_text, reg_address_text, regs_number_text, regs_text, hex_digit, hex_text, data_text, instr_text, word_text};
 
-use crate::mnemonics::{Mnemonic, mnemonic_text};
 use plural_bytes::Memory;
 use plural_isa::{Instr, Reg, decode, reg_name};
+use plural_statement::{Mnemonic, mnemonic_text};
 use std::alloc::Global;
 
 /// The word of `fence`.

@@ -5,11 +5,11 @@ ghost use Rattle.std.specs.BTreeMap.{get_by};
 ghost use Rattle.std.specs.Cmp.Lexicographic.{slice_cmp};
 ghost use Rattle.std.specs.Ordering.{nat_cmp};
 ghost use Rattle.plural_isa.specs.Encoding.{IsOffset};
-ghost use Rattle.plural_asm.specs.declared.statement.Target.TheVariants as target;
+ghost use Rattle.plural_statement.specs.declared.statement.Target.TheVariants as target;
 ghost use Rattle.plural_asm.specs.Words.{is_near, reaches, offset_in, offset_at, IsReached, target_offset};
 
-use crate::statement::{Statement, Target};
 use plural_bytes::Name;
+use plural_statement::{Statement, Target};
 use std::collections::BTreeMap;
 
 /// How far a jump and a branch reach: from `-half` to `half - 2`, in bytes.

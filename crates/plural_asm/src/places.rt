@@ -7,9 +7,8 @@ ghost use Rattle.std.specs.Ordering.{nat_cmp};
 ghost use Rattle.plural_bytes.specs.Spelled.{text_lines};
 ghost use Rattle.plural_asm.specs.Labels.{is_short, li_size, words_in, place_of, noted, is_option};
 
-use crate::line::line_of;
-use crate::statement::Statement;
 use plural_bytes::{Line, Memory, Name};
+use plural_statement::{Statement, line_of};
 use std::alloc::Global;
 use std::collections::BTreeMap;
 

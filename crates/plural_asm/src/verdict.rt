@@ -9,8 +9,8 @@ ghost use Rattle.plural_asm.specs.Rules.{is_out_of_range, is_defined, is_unknown
 use crate::object::AsmKind;
 use crate::offset::Offset;
 use crate::places::words_in;
-use crate::statement::{KernelLine, Statement};
 use plural_bytes::Name;
+use plural_statement::{KernelLine, Statement};
 use std::collections::BTreeMap;
 
 fn is_out_of_range(statement: Option<Statement>) -> bool

@@ -8,15 +8,15 @@ ghost use Rattle.plural_isa.specs.Fields.{signed};
 ghost use Rattle.plural_isa.specs.Encoding.{IsWithin, word_of};
 ghost use Rattle.plural_isa.specs.declared.instr.Instr.TheVariants as instr;
 ghost use Rattle.plural_isa.specs.declared.instr.ImmOp.TheVariants as imm;
-ghost use Rattle.plural_asm.specs.declared.statement.Statement.TheVariants.{Li};
+ghost use Rattle.plural_statement.specs.declared.statement.Statement.TheVariants.{Li};
 ghost use Rattle.plural_asm.specs.Words.{IsReached, low_part, high_part, li_words, jump_word, branch_word, words_at, label_at};
 
 use crate::object::Label;
 use crate::offset::{BRANCH_HALF, JUMP_HALF, Offset, offset_at};
 use crate::places::is_short;
-use crate::statement::Statement;
 use plural_bytes::{Memory, Name};
 use plural_isa::{BranchOp, ImmOp, Instr, Reg, encode};
+use plural_statement::Statement;
 use std::collections::BTreeMap;
 
 fn low_part(word: u32) -> i32

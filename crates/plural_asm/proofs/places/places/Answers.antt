@@ -1,6 +1,6 @@
 use Rattle.std.proofs.Common.{◌+◌, ap, sym, ◌∙◌, arith}
 use Rattle.plural_asm.specs.Labels.{is_option, words_in}
-use Rattle.plural_asm.specs.declared.statement.KernelLine.{KernelLine}
+use Rattle.plural_statement.specs.declared.statement.KernelLine.{KernelLine}
 use Rattle.plural_asm.proofs.Placed.{known_more, place_more}
 use Rattle.plural_asm.proofs.places.places.Goals as goal
 

@@ -1,0 +1,115 @@
+-- The mnemonics and the registers are found by their texts.
+use Rattle.std.proofs.Common.{◌≡◌, ℕ, ◌<◌, Bool, true, false, eqb, Option, Some, None, length, refl, ap}
+use Rattle.std.specs.Prelude.{nat_lt}
+use Rattle.std.specs.List.{list_all}
+use Rattle.std.proofs.lemmas.Bool.{agree_below_at, eqb-true, ltb-true}
+use Rattle.plural_isa.specs.RegisterNames.{plain_name, named}
+use Rattle.plural_isa.specs.declared.instr.BranchOp.{BranchOp}
+use Rattle.plural_isa.specs.declared.instr.BranchOp.TheVariants as branch
+use Rattle.plural_isa.specs.declared.instr.LoadOp.{LoadOp}
+use Rattle.plural_isa.specs.declared.instr.LoadOp.TheVariants as load
+use Rattle.plural_isa.specs.declared.instr.StoreOp.{StoreOp}
+use Rattle.plural_isa.specs.declared.instr.StoreOp.TheVariants as store
+use Rattle.plural_isa.specs.declared.instr.ImmOp.{ImmOp}
+use Rattle.plural_isa.specs.declared.instr.ImmOp.TheVariants as imm
+use Rattle.plural_isa.specs.declared.instr.RegOp.{RegOp}
+use Rattle.plural_isa.specs.declared.instr.RegOp.TheVariants as reg
+use Rattle.plural_statement.specs.Mnemonics.{mnemonic_text, mnemonic_of}
+use Rattle.plural_statement.specs.declared.mnemonics.Mnemonic.{Mnemonic}
+use Rattle.plural_statement.specs.declared.mnemonics.Mnemonic.TheVariants as m
+use Rattle.plural_asm.proofs.Plain.{is_word, IsOperand}
+use Rattle.plural_asm.proofs.Lined.{solid_of}
+
+-- a mnemonic is found by its text, which isn't empty and has bytes of a word alone
+abbrev pub IsSpelled : Mnemonic → Type 0
+IsSpelled k = (list_all is_word (mnemonic_text k) ≡ true) × (nat_lt 0 (length (mnemonic_text k)) ≡ true) × (mnemonic_of (mnemonic_text k) ≡ Some k)
+
+pub spelled_branch : (op : BranchOp) → IsSpelled (m.Branch op)
+spelled_branch branch.Beq = (refl, refl, refl)
+spelled_branch branch.Bne = (refl, refl, refl)
+spelled_branch branch.Blt = (refl, refl, refl)
+spelled_branch branch.Bge = (refl, refl, refl)
+spelled_branch branch.Bltu = (refl, refl, refl)
+spelled_branch branch.Bgeu = (refl, refl, refl)
+
+pub spelled_load : (op : LoadOp) → IsSpelled (m.Load op)
+spelled_load load.Lb = (refl, refl, refl)
+spelled_load load.Lh = (refl, refl, refl)
+spelled_load load.Lw = (refl, refl, refl)
+spelled_load load.Lbu = (refl, refl, refl)
+spelled_load load.Lhu = (refl, refl, refl)
+
+pub spelled_store : (op : StoreOp) → IsSpelled (m.Store op)
+spelled_store store.Sb = (refl, refl, refl)
+spelled_store store.Sh = (refl, refl, refl)
+spelled_store store.Sw = (refl, refl, refl)
+
+pub spelled_imm : (op : ImmOp) → IsSpelled (m.Imm op)
+spelled_imm imm.Addi = (refl, refl, refl)
+spelled_imm imm.Slti = (refl, refl, refl)
+spelled_imm imm.Sltiu = (refl, refl, refl)
+spelled_imm imm.Xori = (refl, refl, refl)
+spelled_imm imm.Ori = (refl, refl, refl)
+spelled_imm imm.Andi = (refl, refl, refl)
+spelled_imm imm.Slli = (refl, refl, refl)
+spelled_imm imm.Srli = (refl, refl, refl)
+spelled_imm imm.Srai = (refl, refl, refl)
+
+pub spelled_reg : (op : RegOp) → IsSpelled (m.Reg op)
+spelled_reg reg.Add = (refl, refl, refl)
+spelled_reg reg.Sub = (refl, refl, refl)
+spelled_reg reg.Sll = (refl, refl, refl)
+spelled_reg reg.Slt = (refl, refl, refl)
+spelled_reg reg.Sltu = (refl, refl, refl)
+spelled_reg reg.Xor = (refl, refl, refl)
+spelled_reg reg.Srl = (refl, refl, refl)
+spelled_reg reg.Sra = (refl, refl, refl)
+spelled_reg reg.Or = (refl, refl, refl)
+spelled_reg reg.And = (refl, refl, refl)
+spelled_reg reg.Mul = (refl, refl, refl)
+spelled_reg reg.Mulh = (refl, refl, refl)
+spelled_reg reg.Mulhsu = (refl, refl, refl)
+spelled_reg reg.Mulhu = (refl, refl, refl)
+spelled_reg reg.Div = (refl, refl, refl)
+spelled_reg reg.Divu = (refl, refl, refl)
+spelled_reg reg.Rem = (refl, refl, refl)
+spelled_reg reg.Remu = (refl, refl, refl)
+
+pub spelled_lui : IsSpelled m.Lui
+spelled_lui = (refl, refl, refl)
+
+pub spelled_auipc : IsSpelled m.Auipc
+spelled_auipc = (refl, refl, refl)
+
+pub spelled_jal : IsSpelled m.Jal
+spelled_jal = (refl, refl, refl)
+
+pub spelled_jalr : IsSpelled m.Jalr
+spelled_jalr = (refl, refl, refl)
+
+pub spelled_word : IsSpelled m.Word
+spelled_word = (refl, refl, refl)
+
+-- ---- registers
+
+-- this number is there
+abbrev is_there : Option ℕ → ℕ → Bool
+is_there None n = false
+is_there (Some k) n = eqb k n
+
+there : (o : Option ℕ) (n : ℕ) → is_there o n ≡ true → o ≡ Some n
+there None n h = absurd cc
+there (Some k) n h = ap (λ (j : ℕ). Some j) (eqb-true k n h)
+
+-- a register is found by its plain name
+pub named_back : (r : ℕ) → r < 32 → named (plain_name r) ≡ Some r
+named_back r l = there (named (plain_name r)) r (agree_below_at (λ r. is_there (named (plain_name r)) r) (λ r. true) 32 r refl l)
+
+pub name_words : (r : ℕ) → r < 32 → list_all is_word (plain_name r) ≡ true
+name_words r l = agree_below_at (λ r. list_all is_word (plain_name r)) (λ r. true) 32 r refl l
+
+pub name_some : (r : ℕ) → r < 32 → 0 < length (plain_name r)
+name_some r l = ltb-true 0 (length (plain_name r)) (agree_below_at (λ r. nat_lt 0 (length (plain_name r))) (λ r. true) 32 r refl l)
+
+pub name_operand : (r : ℕ) → r < 32 → IsOperand (plain_name r)
+name_operand r l = record { solid = solid_of (plain_name r) (name_words r l); some = name_some r l }
