@@ -1,2 +1,4 @@
 pub mod Regions
 pub mod Edge
+pub mod ResidueLemmas
+pub mod MeetingLemmas

@@ -61,7 +61,7 @@ pub struct Outside {
 }
 
 impl Region {
-    ghost use Rattle.std.specs.Prelude.{◌≡◌, ◌<◌, ◌↔◌, ℕ, IsTrue, IfOk, IfErr, IfSome, IfNone};
+    ghost use Rattle.std.specs.Prelude.{◌≡◌, ◌+◌, ◌*◌, ◌<◌, ◌↔◌, ℕ, IsTrue, IfOk, IfErr, IfSome, IfNone};
     ghost use Rattle.plural_regions.specs.Rights.{IsIn, is_in};
     ghost use Rattle.plural_regions.specs.Bounds.{IsInside, IsOutside, AllInside, IsLeastOutside};
 
@@ -73,11 +73,18 @@ impl Region {
         self.spans(k, a)
     }
 
+    /// The first word of instance `k`.
+    pub(crate) fn start(&self, k: u32) -> u64
+        ensures { result ≡ self.now.base + self.now.stride * k }
+    {
+        u64::from(self.base) + u64::from(self.stride) * u64::from(k)
+    }
+
     /// Whether word `a` lies from the first word of instance `k` to the last.
     fn spans(&self, k: u32, a: u32) -> bool
         ensures { result ≡ is_in self.now k a }
     {
-        let start = u64::from(self.base) + u64::from(self.stride) * u64::from(k);
+        let start = self.start(k);
         start <= u64::from(a) && u64::from(a) < start + u64::from(self.count)
     }
 
@@ -94,7 +101,7 @@ impl Region {
     }
 
     /// The least of all instances that has a word at `w` or above.
-    fn first_outside(&self, w: u32) -> Option<u32>
+    pub(crate) fn first_outside(&self, w: u32) -> Option<u32>
         ensures outside { IfSome result (λ k. IsOutside self.now k w × AllInside self.now k w) }
         ensures inside { IfNone result ((k : ℕ) → IsInside self.now k w) }
     {
