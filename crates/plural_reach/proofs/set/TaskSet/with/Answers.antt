@@ -1,0 +1,8 @@
+use Rattle.plural_reach.proofs.SetLemmas.{has-with_low, has-with_high}
+use Rattle.plural_reach.proofs.set.TaskSet.with.Goals as goal
+
+pub returns-then-t-lt128 : goal.returns-then-t-lt128
+returns-then-t-lt128 c = λ u. has-with_low c.args.self c.args.t u c.if-t-lt128.true
+
+pub returns-else-t-lt128 : goal.returns-else-t-lt128
+returns-else-t-lt128 c = λ u. has-with_high c.args.self c.args.t u c.if-t-lt128.false c.requires
