@@ -1,3 +1,4 @@
 pub mod Accesses
+pub mod Footprint
 pub mod Runs
 pub mod Settled

@@ -2,10 +2,12 @@
 use Rattle.std.specs.Prelude.{ℕ, ◌≡◌, List, ◌++◌, length, map, slice_set, Option, Some}
 use Rattle.plural_map.specs.declared.outcome.Outcome.{Outcome}
 use Rattle.plural_serial.specs.declared.record_.Record.{Record}
+use Rattle.plural_cache.specs.Miss.{misses_of}
 use Rattle.plural_serial.specs.Program.{ProgramValue, life_of}
 use Rattle.plural_serial.specs.Serial.{Started, end_of, with_task, serial_of}
 
--- The record of an instance that ran: its end, its completed instructions, its accesses.
+-- The record of an instance that ran: its end, its completed instructions, its accesses, and those of its load
+-- accesses that miss by looking back over them from the first on.
 abbrev pub record_of : ProgramValue → Started → Record
 record_of p i =
     let life = life_of p i.t i.k i.start in
@@ -15,7 +17,7 @@ record_of p i =
       «end» = end_of p i;
       instructions = life.state.count;
       loads = length life.loads;
-      misses = 0;
+      misses = misses_of p.map.sets p.map.ways life.loads;
       stores = length life.stores;
     }
 

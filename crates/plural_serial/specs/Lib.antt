@@ -1,9 +1,15 @@
 pub use Rattle.plural_core.specs.Turn
 pub use Rattle.plural_core.specs.Life
+pub use Rattle.plural_cache.specs.Bus
+pub use Rattle.plural_cache.specs.Miss
+pub use Rattle.plural_cache.specs.Cache
 pub use Rattle.plural_map.specs.Value
 pub use Rattle.plural_map.specs.Limits
 pub use Rattle.plural_map.specs.Decisions
 pub mod Words
 pub mod Program
+pub mod Cached
+pub mod Keeping
 pub mod Serial
 pub mod Answer
+pub mod Footprint

@@ -1,6 +1,6 @@
 ghost use Rattle.std.specs.Prelude.{◌≡◌, ℕ, ◌+◌, ◌<◌, ◌≤◌, ◌^◌, List, [], None, length, nat_lt, slice_index};
 
-use plural_core::DataPort;
+use plural_cache::Bus;
 use std::marker::Model;
 
 /// A flat memory of words of 32 bits, with the counts of its reads and writes.
@@ -62,29 +62,27 @@ impl Flat {
     }
 }
 
-impl DataPort for Flat {
+impl Bus for Flat {
     ghost holds = { λ f. f.words };
 
     ghost lawful = { λ f a. nat_lt a (length f.words) };
 
     ghost expects = { λ _. None };
 
-    ghost stands_for = { λ _ _. Unit {0} };
+    ghost reads = { λ f. f.reads };
 
-    ghost loads = { λ f. f.reads };
-
-    ghost stores = { λ f. f.writes };
+    ghost writes = { λ f. f.writes };
 
     ghost keeps = { λ _ _. Unit {0} };
 
     ghost is_sound = { λ _. Unit {0} };
 
-    fn load(&mut self, a: u32) -> u32 {
+    fn read(&mut self, a: u32) -> u32 {
         self.reads += 1;
         self.words[a as usize]
     }
 
-    fn store(&mut self, a: u32, v: u32) {
+    fn write(&mut self, a: u32, v: u32) {
         self.writes += 1;
         self.words[a as usize] = v;
     }

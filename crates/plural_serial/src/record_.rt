@@ -12,7 +12,7 @@ pub struct Record {
     pub instructions: u32,
     /// The load accesses.
     pub loads: u32,
-    /// The load accesses that missed the cache: 0, as long as instances run without one.
+    /// The load accesses that missed the instance's cache, which is empty at its start.
     pub misses: u32,
     /// The stores.
     pub stores: u32,

@@ -8,7 +8,7 @@ use Rattle.plural_serial.proofs.machine.run_task.Goals as goal
 
 pub loop-k-init : goal.loop-k-init
 unfolding instances
-loop-k-init c = record { words = refl; memory = refl; records = sym (append-nil c.args.records.now.items); outcome = refl }
+loop-k-init c = record { shape = c.requires.shape; words = refl; memory = refl; records = sym (append-nil c.args.records.now.items); outcome = refl }
 
 pub loop-k-preserved : goal.loop-k-preserved
 loop-k-preserved c =
@@ -21,6 +21,7 @@ loop-k-preserved c =
     let is : c.run_instance-record.result ≡ record_of p new = done.record ∙ ap (λ m. record_of p (record { t = c.args.t; k = c.loop-k.k; start = m })) i.memory in
     let more : instances p c.args.t (c.loop-k.k + 1) c.args.flat.now.words ≡ with_instance p c.args.t c.loop-k.k s = instances_more p c.args.t c.loop-k.k c.args.flat.now.words in
     record {
+      shape = done.shape;
       words = done.words ∙ i.words;
       memory = done.memory ∙ ap (λ m. (life_of p c.args.t c.loop-k.k m).memory) i.memory ∙ sym (ap (λ (x : Stretch). x.memory) more);
       records = c.in_ok-push.ensures.items

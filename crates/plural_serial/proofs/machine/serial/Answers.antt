@@ -9,28 +9,29 @@ use Rattle.plural_serial.proofs.machine.serial.Goals as goal
 
 pub task_outcome-requires-clause-t : goal.task_outcome-requires-clause-t
 task_outcome-requires-clause-t c =
-    next_within c.args.program.now.map _ c.loop-t.t-index (subst (λ (m : MapValue). IsMap m) c.map-2.ensures c.order-t-items.ensures.limits) c.loop-t.invariant.order (omega arith)
+    next_within c.args.program.now.map _ c.loop-t.t-index (subst (λ (m : MapValue). IsMap m) c.map-map.ensures c.order-t-items.ensures.limits) c.loop-t.invariant.order (omega arith)
 
 pub task_outcome-requires-clause-decidable : goal.task_outcome-requires-clause-decidable
 task_outcome-requires-clause-decidable c =
     rw c.deref.ensures.value
-    (predecessors_there c.args.program.now.map _ c.loop-t.outcomes.items c.loop-t.t-index (subst (λ (m : MapValue). IsMap m) c.map-2.ensures c.order-t-items.ensures.limits) c.loop-t.invariant.order (omega arith)
+    (predecessors_there c.args.program.now.map _ c.loop-t.outcomes.items c.loop-t.t-index (subst (λ (m : MapValue). IsMap m) c.map-map.ensures c.order-t-items.ensures.limits) c.loop-t.invariant.order (omega arith)
     c.loop-t.invariant.settled)
 
 pub index_mut-requires : goal.index_mut-requires
 index_mut-requires c =
-    let within = next_within c.args.program.now.map _ c.loop-t.t-index (subst (λ (m : MapValue). IsMap m) c.map-2.ensures c.order-t-items.ensures.limits) c.loop-t.invariant.order (omega arith) in
+    let within = next_within c.args.program.now.map _ c.loop-t.t-index (subst (λ (m : MapValue). IsMap m) c.map-map.ensures c.order-t-items.ensures.limits) c.loop-t.invariant.order (omega arith) in
     omega (arith, within, c.loop-t.invariant.count)
 
 pub loop-t-preserved : goal.loop-t-preserved
 loop-t-preserved c =
     let i = c.loop-t.invariant in
     let items = c.order-t-items.result.now in
-    let within = next_within c.args.program.now.map items c.loop-t.t-index (subst (λ (m : MapValue). IsMap m) c.map-2.ensures c.order-t-items.ensures.limits) i.order (omega arith) in
+    let within = next_within c.args.program.now.map items c.loop-t.t-index (subst (λ (m : MapValue). IsMap m) c.map-map.ensures c.order-t-items.ensures.limits) i.order (omega arith) in
     let here : get_or items c.loop-t.t-index 0 < length c.loop-t.outcomes.items = omega (arith, within, i.count) in
     let ran = rw c.deref.ensures.value at c.in_ok-outcome.ensures.all in
     record {
       order = i.order;
+      shape = c.task_outcome.ensures.shape;
       words = c.task_outcome.ensures.words ∙ i.words;
       count = length-set c.loop-t.outcomes.items (get_or items c.loop-t.t-index 0) (Some c.in_ok-outcome.outcome) ∙ i.count;
       settled = more_done items c.loop-t.outcomes.items c.loop-t.t-index (get_or items c.loop-t.t-index 0) c.in_ok-outcome.outcome (omega arith) refl here i.settled;
@@ -41,5 +42,5 @@ loop-t-preserved c =
 pub settled-requires : goal.settled-requires
 settled-requires c =
     rw c.deref-2.ensures.value
-    (all_settled c.args.program.now.map c.order-t-items.result.now c.loop-t.outcomes.items c.loop-t.t-index (subst (λ (m : MapValue). IsMap m) c.map-2.ensures c.order-t-items.ensures.limits) c.loop-t.invariant.order
+    (all_settled c.args.program.now.map c.order-t-items.result.now c.loop-t.outcomes.items c.loop-t.t-index (subst (λ (m : MapValue). IsMap m) c.map-map.ensures c.order-t-items.ensures.limits) c.loop-t.invariant.order
     (omega arith) c.loop-t.invariant.count c.loop-t.invariant.settled)

@@ -1,0 +1,5 @@
+use Rattle.plural_serial.proofs.Footprint.{footprint}
+use Rattle.plural_serial.proofs.laws.footprint.Goals as goal
+
+pub returns : goal.returns
+returns c = footprint
