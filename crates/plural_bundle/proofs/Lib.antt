@@ -1,4 +1,10 @@
-pub mod Cuts
-pub mod Parts
-pub mod Loops
-pub mod OnlyMap
+pub mod Cut
+pub mod Bordered
+pub mod Behind
+pub mod Staged
+pub mod Sectioned
+pub mod Named
+pub mod Valued
+pub mod Past
+pub mod Whole
+pub mod Parted

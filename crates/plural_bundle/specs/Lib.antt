@@ -1,9 +1,17 @@
-pub use Rattle.plural_bytes.specs.Names
-pub use Rattle.plural_bytes.specs.Numerals
-pub use Rattle.plural_image.specs.Print
-pub use Rattle.plural_isa.specs.Fields
-pub use Rattle.plural_isa.specs.Table
-pub mod Supported
-pub mod OneTask
-pub mod Reading
-pub mod Program
+pub use Rattle.plural_bytes.specs.Lines
+pub use Rattle.plural_bytes.specs.Spelled
+pub use Rattle.plural_bytes.specs.Faults
+pub use Rattle.plural_map.specs.Parts
+pub use Rattle.plural_map.specs.Rules as MapRules
+pub use Rattle.plural_asm.specs.Words
+pub use Rattle.plural_asm.specs.Labels
+pub use Rattle.plural_image.specs.Image
+pub use Rattle.plural_serial.specs.Program
+pub mod Sections
+pub mod FirstLine
+pub mod Kinds
+pub mod Rules
+pub mod Borders
+pub mod Value
+pub mod Answer
+pub mod Laws

@@ -1,20 +1,24 @@
-//! Bundles.
+//! Bundles: a version, a map, kernels and an image in one text.
 //!
-//! Promise: the reader of the one-task form answers a bundle exactly where the bytes are the text of
-//! one, and that bundle is the only one with this text (`specs/OneTask.antt`).
-//! Stands on `plural_bytes` (names and digits), `plural_isa` (the instruction table), `plural_image`
-//! (words of eight digits) and `arrayvec`.
+//! Promise: `read_bundle` answers the program and the image that the lines of a bundle spell
+//! (`specs/Value.antt`), or exactly the first line with a fault and its least kind
+//! (`specs/Rules.antt`). The lines without a fault are those of the form, part by part
+//! (`laws::parts_make_a_bundle`, `laws::a_bundle_has_parts`).
+//! Stands on `plural_map`, `plural_asm` and `plural_image`, which read the sections, and on
+//! `plural_serial`, whose program it makes. `plural_cli` reads what it runs through it.
 #![tactic(auto)]
 
-mod code_lines;
-mod image_line;
-mod one_task;
-mod pieces;
+mod border;
+mod bundle;
+mod fault;
+mod first_line;
+pub mod laws;
 mod program;
-mod task_line;
-
-pub use one_task::{OneTask, read_one_task};
-pub use program::one_task_program;
-
+mod read;
+mod section;
 #[cfg(test)]
 mod tests;
+
+pub use bundle::Bundle;
+pub use fault::{BundleError, Fault};
+pub use read::read_bundle;

@@ -1,68 +1,45 @@
-ghost use Rattle.std.specs.Prelude.{◌≡◌, ◌∷◌, [], ◌≤◌, length, IfOk};
-ghost use Rattle.plural_bundle.specs.Program.{whole_memory, only_task, only_map, only_program};
+//! The program of a map and its kernels.
 
-use crate::one_task::OneTask;
-use arrayvec::ArrayVec;
+ghost use Rattle.std.specs.Prelude.{◌≡◌, ◌%◌, map, IfOk};
+ghost use Rattle.std.specs.List.{AllByRecursion};
+ghost use Rattle.plural_bundle.specs.Value.{pc_of, program_with};
+
+use plural_asm::{Label, Object};
 use plural_bytes::{Memory, Name};
-use plural_isa::Code;
 use plural_map::{Map, Task};
-use plural_regions::{Mode, Region};
 use plural_serial::Program;
 use std::alloc::Global;
 
-/// The whole memory of eight words, to be written.
-fn whole_memory() -> Region
-    ensures { result ≡ whole_memory }
+/// The pc of the first label of a name, in bytes.
+fn pc_of(labels: &[Label], name: &Name) -> u32
+    ensures { result ≡ pc_of labels.now name.now }
 {
-    Region {
-        mode: Mode::Write,
-        base: 0,
-        stride: 0,
-        count: 8,
+    let mut rest = labels;
+    while let [label, after @ ..] = rest {
+        if label.name == *name {
+            return label.pc;
+        }
+        rest = after;
     }
+    0
 }
 
-/// The task of a bundle in the one-task form.
-fn only_task(name: Name, label: Name, budget: u32) -> Task
-    ensures { result ≡ only_task name label budget }
+/// The pc at which each task begins.
+fn entries(alloc: Global, tasks: &[Task], labels: &[Label]) -> Result<Vec<u32>, Memory>
+    ensures { IfOk result (λ v. v.items ≡ map (λ t. pc_of labels.now t.entry) tasks.now) }
 {
-    let mut regions = ArrayVec::new();
-    regions.push(whole_memory());
-    Task::of(
-        name,
-        false,
-        1,
-        label,
-        budget,
-        false,
-        ArrayVec::new(),
-        regions,
-    )
-}
-
-/// The map of a bundle in the one-task form.
-fn only_map(alloc: Global, name: Name, label: Name, budget: u32) -> Result<Map, Memory>
-    requires low { 1 ≤ budget }
-    requires high { budget ≤ 100000000 }
-    ensures { IfOk result (λ m. m ≡ only_map name label budget) }
-{
-    let mut tasks = Vec::new(alloc);
-    tasks.push(only_task(name, label, budget))?;
-    let mut order = Vec::new(alloc);
-    order.push(0)?;
-    Ok(Map::of(8, 1, 1, tasks, order))
-}
-
-/// The program of a bundle in the one-task form. Its budget is from 1 to 100,000,000.
-pub fn one_task_program(alloc: Global, task: &OneTask) -> Result<Program, Memory>
-    requires low { 1 ≤ task.now.budget }
-    requires high { task.now.budget ≤ 100000000 }
-    requires few { length task.now.words.items ≤ 16384 }
-    ensures { IfOk result (λ p. p ≡ only_program task.now.name task.now.label task.now.budget task.now.words.items) }
-{
-    let map = only_map(alloc, task.name, task.label, task.budget)?;
-    let code = Code::of(Vec::from_slice(alloc, task.words.as_slice())?);
     let mut entries = Vec::new(alloc);
-    entries.push(0)?;
-    Ok(Program::of(map, code, entries))
+    for task in tasks {
+        entries.push(pc_of(labels, task.entry()))?;
+    }
+    Ok(entries)
+}
+
+/// The program whose tasks begin at the labels that their entries name.
+pub(crate) fn program(alloc: Global, map: Map, object: Object) -> Result<Program, Memory>
+    requires { AllByRecursion (λ l. l.pc % 4 ≡ 0) object.1 }
+    ensures { IfOk result (λ p. p ≡ program_with map object.0 object.1) }
+{
+    let entries = entries(alloc, map.tasks(), object.labels.as_slice())?;
+    Ok(Program::of(map, object.code, entries))
 }

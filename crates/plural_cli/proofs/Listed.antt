@@ -18,7 +18,7 @@ one_more c ps n true h = omega (arith, h)
 one_more c ps n false h = omega (arith, h, length-onto_first c ps)
 
 -- a text has no more lines than bytes
-length-pieces : (text : List ℕ) → length (pieces text) ≤ length text
+pub length-pieces : (text : List ℕ) → length (pieces text) ≤ length text
 length-pieces [] = omega arith
 length-pieces (c ∷ cs) = omega (arith, one_more c (pieces cs) (length cs) (is_line_end c) (length-pieces cs))
 

@@ -4,8 +4,8 @@ use Rattle.plural_bytes.specs.Lines.{TextLine, content_lines}
 use Rattle.plural_bytes.specs.Faults.{IsFaultless}
 use Rattle.plural_image.specs.Print.{hex_text}
 use Rattle.plural_asm.specs.Words.{code_of}
-use Rattle.plural_asm.specs.Rules.{Breaks}
-use Rattle.plural_cli.specs.FaultLine.{IsRefused}
+use Rattle.plural_asm.specs.Rules.{Breaks, rank}
+use Rattle.plural_cli.specs.FaultLine.{kind_text, IsRefused}
 
 -- Words, each as eight lower-case hexadecimal digits and a line end.
 abbrev pub code_text : List ℕ → List ℕ
@@ -19,4 +19,4 @@ pub record IsAssembled (lines : List TextLine) (status : ℕ) (text : List ℕ) 
 
 -- The status and the text of an input that is not too long: the code of its content lines, or their first fault.
 abbrev pub IsAsmAnswer : (bytes : List ℕ) (status : ℕ) (text : List ℕ) → Type 0
-IsAsmAnswer bytes status text = IsAssembled (content_lines bytes) status text ⊎ IsRefused (Breaks (content_lines bytes)) (content_lines bytes) status text
+IsAsmAnswer bytes status text = IsAssembled (content_lines bytes) status text ⊎ IsRefused rank kind_text (Breaks (content_lines bytes)) (content_lines bytes) status text

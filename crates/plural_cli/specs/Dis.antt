@@ -7,7 +7,8 @@ use Rattle.plural_image.specs.Shape.{word_token}
 use Rattle.plural_asm.specs.WordText.{word_text}
 use Rattle.plural_asm.specs.declared.object.AsmKind.{AsmKind}
 use Rattle.plural_asm.specs.declared.object.AsmKind.TheVariants as kinds
-use Rattle.plural_cli.specs.FaultLine.{IsRefused}
+use Rattle.plural_asm.specs.Rules.{rank}
+use Rattle.plural_cli.specs.FaultLine.{kind_text, IsRefused}
 
 -- A line's kinds of fault: form where it is no word of eight hexadecimal digits, count where 16,384 lines or more stand before it.
 abbrev pub dis_breaks : List TextLine → List ℕ → AsmKind → Type 0
@@ -33,7 +34,7 @@ pub record IsDisassembled (lines : List TextLine) (status : ℕ) (text : List �
 
 -- The status and the text of lines: the assembler lines of their words, or their first fault.
 abbrev pub IsWordsAnswer : (lines : List TextLine) (status : ℕ) (text : List ℕ) → Type 0
-IsWordsAnswer lines status text = IsDisassembled lines status text ⊎ IsRefused dis_breaks lines status text
+IsWordsAnswer lines status text = IsDisassembled lines status text ⊎ IsRefused rank kind_text dis_breaks lines status text
 
 -- The status and the text of an input that is not too long are those of its content lines.
 abbrev pub IsDisAnswer : (bytes : List ℕ) (status : ℕ) (text : List ℕ) → Type 0

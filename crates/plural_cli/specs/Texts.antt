@@ -10,10 +10,6 @@ usage_text = codes "usage: plural run --cores N [--order SEED] | serial | check 
 abbrev pub too_long_text : List ℕ
 too_long_text = codes "fault: input longer than 16777216 bytes\n"
 
--- The line for an input that cannot be run yet.
-abbrev pub not_built_text : List ℕ
-not_built_text = codes "fault: not built\n"
-
 -- An image between its header and the end.
 abbrev pub image_part : List ℕ → List ℕ
 image_part words = codes "[image]\n" ++ image_text words ++ codes "[end]\n"

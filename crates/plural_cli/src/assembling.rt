@@ -1,11 +1,10 @@
 //! The command `asm`: kernel lines in, the words of their code out.
 
 ghost use Rattle.std.specs.Prelude.{◌≡◌, ◌≤◌, ◌⊎◌, ◌++◌, length, IfOk, OnOk};
-ghost use Rattle.std.specs.Fmt.{decimal};
-ghost use Rattle.plural_cli.specs.FaultLine.{kind_text, fault_text};
+ghost use Rattle.plural_cli.specs.FaultLine.{kind_text};
 ghost use Rattle.plural_cli.specs.Asm.{code_text, IsAsmAnswer};
 
-use crate::answer::Answer;
+use crate::answer::{Answer, fault_answer};
 use plural_asm::{AsmError, AsmKind, assemble};
 use plural_bytes::{Memory, split};
 use plural_image::hex;
@@ -13,7 +12,7 @@ use plural_isa::Code;
 use std::alloc::Global;
 
 /// The word for a kind of fault.
-fn kind_text(kind: AsmKind) -> &'static [u8]
+pub(crate) fn kind_text(kind: AsmKind) -> &'static [u8]
     ensures { result.now ≡ kind_text kind }
 {
     match kind {
@@ -23,20 +22,6 @@ fn kind_text(kind: AsmKind) -> &'static [u8]
         AsmKind::Count => b"count",
         AsmKind::Reach => b"reach",
     }
-}
-
-/// The answer that tells the first fault: status 3 and one line.
-pub(crate) fn fault_answer(alloc: Global, line: u32, kind: AsmKind) -> Result<Answer, Memory>
-    ensures { IfOk result (λ a. (a.status ≡ 3) × (a.text.items ≡ fault_text line kind)) }
-{
-    let number = line.to_string(alloc)?;
-    let mut text = Vec::new(alloc);
-    text.extend_from_slice(b"fault: line ")?;
-    text.extend_from_slice(number.as_bytes())?;
-    text.extend_from_slice(b": ")?;
-    text.extend_from_slice(kind_text(kind))?;
-    text.push(b'\n')?;
-    Ok(Answer { status: 3, text })
 }
 
 /// The words of a code, each as eight hexadecimal digits and a line end.
@@ -63,7 +48,7 @@ pub(crate) fn asm_answer(alloc: Global, bytes: &[u8]) -> Result<Answer, Memory>
             status: 0,
             text: code_text(alloc, &object.code)?,
         }),
-        Err(AsmError::At { line, kind }) => fault_answer(alloc, line, kind),
+        Err(AsmError::At { line, kind }) => fault_answer(alloc, line, kind_text(kind)),
         Err(AsmError::Memory) => Err(Memory),
     }
 }

@@ -4,9 +4,8 @@ ghost use Rattle.std.specs.Prelude.{◌≡◌, ◌≤◌, ◌⊎◌, ◌++◌, l
 ghost use Rattle.plural_bytes.specs.Spelled.{text_lines};
 ghost use Rattle.plural_cli.specs.Dis.{word_line, IsWordsAnswer, IsDisAnswer};
 
-use crate::answer::Answer;
-use crate::assembling::fault_answer;
-use plural_asm::{AsmKind, disassemble};
+use crate::answer::{Answer, fault_answer};
+use plural_asm::disassemble;
 use plural_bytes::{Line, Memory, split};
 use plural_image::word_of;
 use std::alloc::Global;
@@ -30,10 +29,10 @@ fn disassembled(alloc: Global, lines: &[Line<'_>]) -> Result<Answer, Memory>
     for line in lines {
         let word = match word_of(line.text) {
             Some(word) => word,
-            None => return fault_answer(alloc, line.number, AsmKind::Form),
+            None => return fault_answer(alloc, line.number, b"form"),
         };
         if count >= 16384 {
-            return fault_answer(alloc, line.number, AsmKind::Count);
+            return fault_answer(alloc, line.number, b"count");
         }
         put_word(alloc, &mut text, word)?;
         count += 1;

@@ -4,10 +4,12 @@ ghost use Rattle.std.specs.Io.KnownBytes.{IsAtEnd};
 ghost use Rattle.plural_bytes.specs.Causes.{Rose};
 ghost use Rattle.plural_cli.specs.Output.{Answers, IsAnswer};
 
-use crate::answer::{Answer, refused, run_answer};
+use crate::answer::{Answer, refused};
 use crate::assembling::asm_answer;
+use crate::checking::check_answer;
 use crate::command::Command;
 use crate::disassembling::dis_answer;
+use crate::running::{run_answer, serial_answer};
 use plural_bytes::{Memory, ReadError, Source, read_all};
 use std::alloc::Global;
 
@@ -30,10 +32,12 @@ pub(crate) enum Missing {
 fn answer_to(alloc: Global, command: Command, bytes: &[u8]) -> Result<Answer, Memory>
     requires { length bytes.now ≤ 16777216 }
     ensures answer { IfOk result (λ a. Answers command bytes.now a.status a.text.items) }
-    ensures statuses { IfOk result (λ a. (a.status ≤ 3) × (a.status ≢ 2)) }
+    ensures statuses { IfOk result (λ a. (a.status ≤ 4) × (a.status ≢ 2)) }
 {
     match command {
         Command::Run => run_answer(alloc, bytes),
+        Command::Serial => serial_answer(alloc, bytes),
+        Command::Check => check_answer(alloc, bytes),
         Command::Asm => asm_answer(alloc, bytes),
         Command::Dis => dis_answer(alloc, bytes),
     }
@@ -46,8 +50,9 @@ pub(crate) fn read_answer<S: Source>(
     source: &mut S,
 ) -> Result<Answer, Missing>
     ensures answer { IfOk result (λ a. IfSome (S.left source.old) (λ bytes. IsAnswer command bytes a.status a.text.items)) }
-    ensures statuses { IfOk result (λ a. (a.status ≤ 3) × (a.status ≢ 2)) }
+    ensures statuses { IfOk result (λ a. (a.status ≤ 4) × (a.status ≢ 2)) }
     ensures end { IfOk result (λ a. a.status ≢ 3 → IsAtEnd (S.left source.new)) }
+    ensures short_end { IfOk result (λ a. IfSome (S.left source.old) (λ bytes. length bytes ≤ 16777216 → IsAtEnd (S.left source.new))) }
     ensures fault { IsErrOf result Missing.Input → Rose (S.faults source.old) (S.faults source.new) }
 {
     match read_all(alloc, source, LIMIT) {

@@ -60,7 +60,7 @@ fn a_run_answers_its_status_and_its_last_memory(rt: HostRuntime) -> Result<(), F
         ("8", "100", ADD, 0, SUM),
         ("8", "100", "start: .word 0x02002283\n", 1, UNCHANGED),
         ("8", "4", ADD, 1, SUM),
-        ("16", "100", ADD, 3, "fault: not built\n"),
+        ("12", "100", ADD, 3, "fault: line 3: number\n"),
     ];
     for (memory, budget, kernel, status, text) in rows {
         let source = MemSource::new(
@@ -88,6 +88,17 @@ fn other_words_leave_the_source_unread(rt: HostRuntime) -> Result<(), Fail> {
         &["run", "--cores", "0"],
         &["run", "--cores", "65"],
         &["run", "--cores", "1", "--cores", "1"],
+        &["run", "--cores=1", "--cores=1"],
+        &["run", "--cores", "2"],
+        &["run", "--cores", "0x1"],
+        &["run", "--cores="],
+        &["run", "--cores"],
+        &["run", "1"],
+        &["serial", "--cores", "1"],
+        &["--cores", "1", "run"],
+        &["--"],
+        &["-h"],
+        &["--help"],
         &["help"],
     ];
     for command in rows {
@@ -106,7 +117,7 @@ fn other_words_leave_the_source_unread(rt: HostRuntime) -> Result<(), Fail> {
 fn a_long_and_an_empty_input_are_refused(rt: HostRuntime) -> Result<(), Fail> {
     let alloc = rt.alloc();
     let rows = [
-        (0, "fault: not built\n"),
+        (0, "fault: line 1: form\n"),
         (16_777_217, "fault: input longer than 16777216 bytes\n"),
     ];
     for (length, text) in rows {

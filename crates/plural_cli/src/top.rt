@@ -1,4 +1,4 @@
-ghost use Rattle.std.specs.Prelude.{◌≡◌, ◌≢◌, ◌⊎◌, ℕ, List, IfSome, map};
+ghost use Rattle.std.specs.Prelude.{◌≡◌, ◌≢◌, ◌≤◌, ◌⊎◌, length, ℕ, List, IfSome, map};
 ghost use Rattle.std.specs.Io.KnownBytes.{Appends, IsAtEnd};
 ghost use Rattle.std.specs.String.{string_bytes};
 ghost use Rattle.plural_bytes.specs.Causes.{Rose};
@@ -6,7 +6,7 @@ ghost use Rattle.plural_bytes.specs.Streams.{AppendsFront};
 ghost use Rattle.plural_cli.specs.declared.command.Command.{Command};
 ghost use Rattle.plural_cli.specs.Command.{command_of};
 ghost use Rattle.plural_cli.specs.Texts.{usage_text};
-ghost use Rattle.plural_cli.specs.Output.{IsAnswer};
+ghost use Rattle.plural_cli.specs.Output.{LIMIT, IsAnswer};
 
 use crate::command::{Command, command_of};
 use crate::gate::Gate;
@@ -37,7 +37,8 @@ fn obey<S: Source, K: Sink>(alloc: Global, command: Command, source: &mut S, sin
         (λ bytes. (text : List ℕ) × IsAnswer command bytes result text × Appends (K.holds sink.old) (K.holds sink.new) text) }
     ensures front { result ≡ 6 → IfSome (S.left source.old)
         (λ bytes. (status : ℕ) × ((text : List ℕ) × (IsAnswer command bytes status text × AppendsFront (K.holds sink.old) (K.holds sink.new) text))) }
-    ensures end { (result ≡ 0) ⊎ (result ≡ 1) → IsAtEnd (S.left source.new) }
+    ensures end { (result ≡ 0) ⊎ (result ≡ 1) ⊎ (result ≡ 4) → IsAtEnd (S.left source.new) }
+    ensures refused_end { result ≡ 3 → IfSome (S.left source.old) (λ bytes. length bytes ≤ LIMIT → IsAtEnd (S.left source.new)) }
     ensures statuses { result ≢ 2 }
     ensures read { result ≡ 5 → Rose (S.faults source.old) (S.faults source.new) }
     ensures write { result ≡ 6 → Rose (K.faults sink.old) (K.faults sink.new) }
@@ -68,7 +69,8 @@ pub fn plural<R: Threads + Sync, S: Source, K: Sink, G: Gate + Sync>(
         (λ bytes. (text : List ℕ) × IsAnswer c bytes result text × Appends (K.holds sink.old) (K.holds sink.new) text) }
     ensures front { (c : Command) → command_of (map string_bytes words.now) ≡ Some c → result ≡ 6 → IfSome (S.left source.old)
         (λ bytes. (status : ℕ) × ((text : List ℕ) × (IsAnswer c bytes status text × AppendsFront (K.holds sink.old) (K.holds sink.new) text))) }
-    ensures end { (result ≡ 0) ⊎ (result ≡ 1) → IsAtEnd (S.left source.new) }
+    ensures end { (result ≡ 0) ⊎ (result ≡ 1) ⊎ (result ≡ 4) → IsAtEnd (S.left source.new) }
+    ensures refused_end { result ≡ 3 → IfSome (S.left source.old) (λ bytes. length bytes ≤ LIMIT → IsAtEnd (S.left source.new)) }
 
     // Words that name no command: the usage line, and the source is as it was.
     ensures usage { command_of (map string_bytes words.now) ≡ None → result ≢ 6 → (result ≡ 2) × Appends (K.holds sink.old) (K.holds sink.new) usage_text }

@@ -1,0 +1,62 @@
+-- The sections of a bundle that was read are those that its definition names.
+use Rattle.std.proofs.Common.{◌≡◌, ℕ, Bool, true, false, List, [], ◌∷◌, ◌++◌, Some, None, refl, ap, sym, ◌∙◌, append_assoc}
+use Rattle.std.specs.Prelude.{codes, bytes_eq}
+use Rattle.std.specs.List.{AllByRecursion, after_first}
+use Rattle.std.proofs.lemmas.Slice.Eq.{bytes_eq-Decides}
+use Rattle.plural_bytes.specs.Lines.{TextLine}
+use Rattle.plural_bundle.specs.declared.fault.Fault.TheVariants.{Form}
+use Rattle.plural_bundle.specs.Sections.{closes, up_to_header, section, map_lines, kernel_lines, image_lines}
+use Rattle.plural_bundle.specs.FirstLine.{first_line_fault}
+use Rattle.plural_bundle.specs.Borders.{IsBegun, IsBehind}
+use Rattle.plural_bundle.proofs.Cut.{after_at, all_weaker, all_append}
+use Rattle.plural_bundle.proofs.Behind.{NoneCloses}
+
+-- none of the lines is this header
+abbrev pub Lacks : List ℕ → List TextLine → Type 0
+Lacks header lines = AllByRecursion (λ l. bytes_eq l.1 header ≡ false) lines
+
+first_apart : (text header : List ℕ) → first_line_fault text ≡ None → first_line_fault header ≡ Some Form → bytes_eq text header ≡ false
+first_apart text header good bad = by (bytes_eq text header) refl
+  where
+    by : (b : Bool) → bytes_eq text header ≡ b → bytes_eq text header ≡ false
+    by false e = e
+    by true e =
+        let same : text ≡ header = (bytes_eq-Decides text header).0 e in
+        absurd (let f : None ≡ Some Form = sym good ∙ ap first_line_fault same ∙ bad in cc)
+
+stays_apart : (text header : List ℕ) → closes header ≡ true → closes text ≡ false → bytes_eq text header ≡ false
+stays_apart text header close stay = by (bytes_eq text header) refl
+  where
+    by : (b : Bool) → bytes_eq text header ≡ b → bytes_eq text header ≡ false
+    by false e = e
+    by true e =
+        let same : text ≡ header = (bytes_eq-Decides text header).0 e in
+        absurd (let f : false ≡ true = sym stay ∙ ap closes same ∙ close in cc)
+
+lines_lack : (header : List ℕ) (lines : List TextLine) → closes header ≡ true → NoneCloses lines → Lacks header lines
+lines_lack header lines close h = all_weaker (λ l. closes l.1 ≡ false) (λ l. bytes_eq l.1 header ≡ false) lines (λ l e. stays_apart l.1 header close e) h
+
+named : (header : List ℕ) (all pre rest : List TextLine) (number : ℕ) → all ≡ pre ++ (number, header) ∷ rest → Lacks header pre → bytes_eq header header ≡ true → section header all ≡ up_to_header rest
+named header all pre rest number e lacks same = ap up_to_header (ap (after_first (λ l. bytes_eq l.1 header)) e ∙ after_at (λ l. bytes_eq l.1 header) pre (number, header) rest lacks same)
+
+pub map_is : (all r1 r2 : List TextLine) → IsBegun all r1 → IsBehind (codes "[map]") r1 r2 → map_lines all ≡ up_to_header r2
+map_is all r1 r2 b m = named (codes "[map]") all (b.first ∷ []) r2 m.number (b.whole ∙ ap (λ x. b.first ∷ x) m.whole) (first_apart b.first.1 (codes "[map]") b.good refl, tt) refl
+
+kernels_whole : (all r1 r2 lines back r4 : List TextLine) → (b : IsBegun all r1) (m : IsBehind (codes "[map]") r1 r2) → r2 ≡ lines ++ back → (k : IsBehind (codes "[kernels]") back r4)
+    → all ≡ (b.first ∷ (m.number, codes "[map]") ∷ lines) ++ (k.number, codes "[kernels]") ∷ r4
+kernels_whole all r1 r2 lines back r4 b m e k = b.whole ∙ ap (λ x. b.first ∷ x) (m.whole ∙ ap (λ x. (m.number, codes "[map]") ∷ x) (e ∙ ap (λ x. lines ++ x) k.whole))
+
+pub kernels_is : (all r1 r2 lines back r4 : List TextLine) → IsBegun all r1 → IsBehind (codes "[map]") r1 r2 → r2 ≡ lines ++ back → NoneCloses lines → IsBehind (codes "[kernels]") back r4 → kernel_lines all ≡ up_to_header r4
+kernels_is all r1 r2 lines back r4 b m e h k =
+    named (codes "[kernels]") all (b.first ∷ (m.number, codes "[map]") ∷ lines) r4 k.number (kernels_whole all r1 r2 lines back r4 b m e k)
+    (first_apart b.first.1 (codes "[kernels]") b.good refl, (refl, lines_lack (codes "[kernels]") lines refl h)) refl
+
+pub image_is : (all r1 r2 lines back r4 kernels after r6 : List TextLine) → IsBegun all r1 → IsBehind (codes "[map]") r1 r2 → r2 ≡ lines ++ back → NoneCloses lines → IsBehind (codes "[kernels]") back r4
+    → r4 ≡ kernels ++ after → NoneCloses kernels → IsBehind (codes "[image]") after r6 → image_lines all ≡ up_to_header r6
+image_is all r1 r2 lines back r4 kernels after r6 b m e h k f g i =
+    let front : List TextLine = b.first ∷ (m.number, codes "[map]") ∷ lines in
+    let kernel : TextLine = (k.number, codes "[kernels]") in
+    let whole : all ≡ (front ++ kernel ∷ kernels) ++ (i.number, codes "[image]") ∷ r6 =
+    kernels_whole all r1 r2 lines back r4 b m e k ∙ ap (λ x. front ++ kernel ∷ x) (f ∙ ap (λ x. kernels ++ x) i.whole) ∙ sym (append_assoc front (kernel ∷ kernels) ((i.number, codes "[image]") ∷ r6)) in
+    named (codes "[image]") all (front ++ kernel ∷ kernels) r6 i.number whole
+    (all_append (λ l. bytes_eq l.1 (codes "[image]") ≡ false) front (kernel ∷ kernels) (first_apart b.first.1 (codes "[image]") b.good refl, (refl, lines_lack (codes "[image]") lines refl h)) (refl, lines_lack (codes "[image]") kernels refl g)) refl

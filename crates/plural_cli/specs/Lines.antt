@@ -1,0 +1,25 @@
+-- What a command answers to an input that has to be a bundle.
+use Rattle.std.specs.Prelude.{ℕ, ◌+◌, ◌⊎◌, List, length}
+use Rattle.plural_bytes.specs.Lines.{TextLine, pieces, content_lines}
+use Rattle.plural_map.specs.Rules.{closed}
+use Rattle.plural_bundle.specs.Kinds.{rank}
+use Rattle.plural_bundle.specs.Rules.{Breaks}
+use Rattle.plural_bundle.specs.Value.{BundleValue, bundle_of}
+use Rattle.plural_bundle.specs.Answer.{IsBundle}
+use Rattle.plural_cli.specs.FaultLine.{bundle_fault_text, IsRefused}
+
+-- The number of the line behind the last, to which a text that ends too early is charged.
+abbrev pub line_behind : List ℕ → ℕ
+line_behind bytes = length (pieces bytes) + 1
+
+-- The lines have a fault, and the answer tells the first.
+abbrev pub IsFaulty : (lines : List TextLine) (end : ℕ) (status : ℕ) (text : List ℕ) → Type 0
+IsFaulty lines end status text = IsRefused rank bundle_fault_text (Breaks lines) (closed lines end) status text
+
+-- The lines are a bundle, and the answer is one to this bundle; or they have a fault, and the answer tells the first.
+abbrev pub LinesToBundle : (BundleValue → (status : ℕ) (text : List ℕ) → Type 0) → (lines : List TextLine) (end : ℕ) (status : ℕ) (text : List ℕ) → Type 0
+LinesToBundle Is lines end status text = (IsBundle lines end × Is (bundle_of lines) status text) ⊎ IsFaulty lines end status text
+
+-- The answer to an input is that to its content lines.
+abbrev pub ToBundle : (BundleValue → (status : ℕ) (text : List ℕ) → Type 0) → (bytes : List ℕ) (status : ℕ) (text : List ℕ) → Type 0
+ToBundle Is bytes status text = LinesToBundle Is (content_lines bytes) (line_behind bytes) status text

@@ -1,0 +1,75 @@
+//! An input that has to be a bundle.
+
+ghost use Rattle.std.specs.Prelude.{◌≡◌, ◌≤◌, ◌%◌, ℕ, List, length, IfOk};
+ghost use Rattle.plural_bytes.specs.Lines.{TextLine, content_lines};
+ghost use Rattle.plural_bytes.specs.Spelled.{text_lines};
+ghost use Rattle.plural_bundle.specs.Value.{bundle_of};
+ghost use Rattle.plural_bundle.specs.Answer.{IsBundle};
+ghost use Rattle.plural_cli.specs.FaultLine.{bundle_fault_text, fault_text};
+ghost use Rattle.plural_cli.specs.Lines.{IsFaulty, line_behind};
+ghost use Rattle.plural_cli.specs.Reading.{IsReading};
+
+use crate::answer::{Answer, fault_answer};
+use plural_bundle::{Bundle, BundleError, Fault, read_bundle};
+use plural_bytes::{Line, Memory, line_count, split};
+use std::alloc::Global;
+
+/// What an input is that has to be a bundle.
+#[derive(Drop)]
+pub(crate) enum Reading {
+    /// A bundle.
+    Whole(Bundle),
+    /// No bundle: the answer that tells its first fault.
+    Faulty(Answer),
+}
+
+/// The word for a fault of a bundle.
+fn fault_word(alloc: Global, fault: Fault) -> Result<Vec<u8>, Memory>
+    ensures { IfOk result (λ v. v.items ≡ bundle_fault_text fault) }
+{
+    let mut word = Vec::new(alloc);
+    match fault {
+        Fault::Form => word.extend_from_slice(b"form")?,
+        Fault::Number => word.extend_from_slice(b"number")?,
+        Fault::Name => word.extend_from_slice(b"name")?,
+        Fault::Count => word.extend_from_slice(b"count")?,
+        Fault::Reach => word.extend_from_slice(b"reach")?,
+        Fault::Address => word.extend_from_slice(b"address")?,
+        Fault::Outside { k } => {
+            word.extend_from_slice(b"outside ")?;
+            word.extend_from_slice(k.to_string(alloc)?.as_bytes())?;
+        }
+    }
+    Ok(word)
+}
+
+/// The answer that tells a fault of the line of this number.
+fn bundle_fault(alloc: Global, line: u32, fault: Fault) -> Result<Answer, Memory>
+    ensures { IfOk result (λ a. (a.status ≡ 3) × (a.text.items ≡ fault_text line (bundle_fault_text fault))) }
+{
+    let word = fault_word(alloc, fault)?;
+    fault_answer(alloc, line, &word)
+}
+
+/// What content lines are of which `end` is the number of the line behind the last.
+fn read_lines(alloc: Global, lines: &[Line<'_>], end: u32) -> Result<Reading, Memory>
+    requires { length lines.now ≤ 67108864 }
+    ensures { IfOk result (λ r. IsReading (text_lines lines.now) end r) }
+{
+    match read_bundle(alloc, lines, end) {
+        Ok(bundle) => Ok(Reading::Whole(bundle)),
+        Err(BundleError::At { line, fault }) => {
+            Ok(Reading::Faulty(bundle_fault(alloc, line, fault)?))
+        }
+        Err(BundleError::Memory) => Err(Memory),
+    }
+}
+
+/// What an input is that is not too long.
+pub(crate) fn read(alloc: Global, bytes: &[u8]) -> Result<Reading, Memory>
+    requires { length bytes.now ≤ 16777216 }
+    ensures { IfOk result (λ r. IsReading (content_lines bytes.now) (line_behind bytes.now) r) }
+{
+    let lines = split(alloc, bytes)?;
+    read_lines(alloc, &lines, line_count(bytes) + 1)
+}
