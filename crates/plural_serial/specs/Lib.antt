@@ -13,3 +13,4 @@ pub mod Keeping
 pub mod Serial
 pub mod Answer
 pub mod Footprint
+pub mod Few

@@ -6,6 +6,7 @@ ghost use Rattle.plural_serial.specs.Program.{task_at, life_of};
 ghost use Rattle.plural_serial.specs.Cached.{IsShaped};
 ghost use Rattle.plural_serial.specs.Serial.{Started, end_of, outcome_of, instances, with_task};
 ghost use Rattle.plural_serial.specs.Answer.{record_of, IsTaskRun, IsSerial};
+ghost use Rattle.plural_serial.specs.declared.record_.Record.{Record};
 
 use crate::answer::Answer;
 use crate::cached::Cached;
@@ -114,6 +115,9 @@ pub fn serial(alloc: Global, program: &Program, image: &[u32]) -> Result<Answer,
     requires { length image.now ≡ program.now.map.words }
     ensures answer { IfOk result (IsSerial program.now image.now) }
     ensures words { IfOk result (λ a. length a.image ≡ program.now.map.words) }
+    ensures one_each { IfOk result (λ a. length a.outcomes ≡ length program.now.map.tasks) }
+    ensures tasks { IfOk result (λ a. All (λ (r : Record). r.t < length program.now.map.tasks) a.records) }
+    ensures few { IfOk result (λ a. length a.records ≤ 65536) }
 {
     let map = program.map();
     let mut cache = Cache::open(alloc, map.sets(), map.ways())?;

@@ -1,10 +1,15 @@
-use Rattle.std.proofs.Common.{◌<◌, ◌∙◌, refl, subst, length, get_or, Some, arith}
+use Rattle.std.proofs.Common.{◌<◌, ◌∙◌, refl, ap, subst, length, get_or, Some, arith}
 use Rattle.std.proofs.Math.ListN.{length-set}
 use Rattle.plural_map.specs.Value.{MapValue}
 use Rattle.plural_map.specs.Limits.{IsMap}
 use Rattle.plural_serial.specs.Serial.{opening}
+use Rattle.plural_serial.proofs.Few.{few_so_far}
 use Rattle.plural_serial.proofs.Runs.{so_far_more}
 use Rattle.plural_serial.proofs.Settled.{next_within, predecessors_there, more_done, all_settled}
+use Rattle.std.proofs.lemmas.List.Elements.{All-same}
+use Rattle.plural_serial.specs.Answer.{AnswerValue}
+use Rattle.plural_serial.specs.declared.record_.Record.{Record}
+use Rattle.plural_serial.proofs.Within.{records_within}
 use Rattle.plural_serial.proofs.machine.serial.Goals as goal
 
 pub task_outcome-requires-clause-t : goal.task_outcome-requires-clause-t
@@ -44,3 +49,15 @@ settled-requires c =
     rw c.deref-2.ensures.value
     (all_settled c.args.program.now.map c.order-t-items.result.now c.loop-t.outcomes.items c.loop-t.t-index (subst (λ (m : MapValue). IsMap m) c.map-map.ensures c.order-t-items.ensures.limits) c.loop-t.invariant.order
     (omega arith) c.loop-t.invariant.count c.loop-t.invariant.settled)
+
+pub returns-clause-tasks : goal.returns-clause-tasks
+returns-clause-tasks c =
+    let limits = subst (λ (m : MapValue). IsMap m) c.map-map.ensures c.order-t-items.ensures.limits in
+    All-same (λ (r : Record). r.t < length c.args.program.now.map.tasks) c.of.result.records c.loop-t.records.items (ap (λ (a : AnswerValue). a.records) c.of.ensures)
+    (records_within c.args.program.now c.args.image.now c.loop-t.flat.words c.order-t-items.result.now c.loop-t.t-index c.loop-t.outcomes.items c.loop-t.records.items limits c.loop-t.invariant.order c.loop-t.invariant.so_far)
+
+pub returns-clause-few : goal.returns-clause-few
+returns-clause-few c =
+    rw c.of.ensures
+    (few_so_far c.args.program.now c.args.image.now c.order-t-items.result.now c.loop-t.t-index c.loop-t.flat.words c.loop-t.outcomes.items c.loop-t.records.items
+    (subst (λ (m : MapValue). IsMap m) c.map-map.ensures c.order-t-items.ensures.limits) c.loop-t.invariant.order (omega arith) c.loop-t.invariant.so_far)
