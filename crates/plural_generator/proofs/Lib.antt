@@ -1,0 +1,4 @@
+pub mod Drawn
+pub mod Mapped
+pub mod Accepted
+pub mod Reread

@@ -1,0 +1,5 @@
+use Rattle.plural_generator.proofs.Accepted.{made_accepted}
+use Rattle.plural_generator.proofs.laws.made_accepted.Goals as goal
+
+pub returns : goal.returns
+returns c = made_accepted

@@ -1,0 +1,12 @@
+//! What holds of every bundle that is made.
+ghost use Rattle.plural_generator.specs.Laws.{MadeAccepted, MapAgain};
+
+/// The map of a made bundle has no clash, whatever the seed.
+pub fn made_accepted()
+    ensures { MadeAccepted }
+{}
+
+/// The map lines of a made bundle spell its map.
+pub fn map_again()
+    ensures { MapAgain }
+{}

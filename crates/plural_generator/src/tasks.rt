@@ -1,0 +1,188 @@
+//! The tasks and their map.
+ghost use Rattle.std.specs.Prelude.{◌≡◌, ◌≤◌, true, [], ◌∷◌, codes, IfOk};
+ghost use Rattle.plural_bytes.specs.Names.{is_name};
+ghost use Rattle.plural_generator.specs.Tasks.{reads, writes, after, fir_task, top_task, best_task, loud_task, quiet_task, done_task, made_tasks, made_map};
+
+use arrayvec::ArrayVec;
+use plural_bytes::{Memory, Name};
+use plural_map::{Dep, Map, Task, When};
+use plural_regions::{Mode, Region};
+use std::alloc::Global;
+
+fn name(text: &[u8]) -> Name
+    requires { is_name text.now ≡ true }
+    ensures { result ≡ text.now }
+{
+    Name::of(text).unwrap()
+}
+
+fn reads(base: u32, stride: u32, count: u32) -> Region
+    requires base { base ≤ 65535 }
+    requires stride { stride ≤ 65535 }
+    requires nonempty { 1 ≤ count }
+    requires count { count ≤ 65536 }
+    ensures { result ≡ reads base stride count }
+{
+    Region {
+        mode: Mode::Read,
+        base,
+        stride,
+        count,
+    }
+}
+
+fn writes(base: u32, stride: u32, count: u32) -> Region
+    requires base { base ≤ 65535 }
+    requires stride { stride ≤ 65535 }
+    requires nonempty { 1 ≤ count }
+    requires count { count ≤ 65536 }
+    ensures { result ≡ writes base stride count }
+{
+    Region {
+        mode: Mode::Write,
+        base,
+        stride,
+        count,
+    }
+}
+
+fn after(task: u32, when: When) -> ArrayVec<Dep, 16>
+    ensures { result.items ≡ after task when ∷ [] }
+{
+    let mut deps = ArrayVec::new();
+    deps.push(Dep { task, when });
+    deps
+}
+
+fn fir() -> Task
+    ensures { result ≡ fir_task }
+{
+    let mut regions = ArrayVec::new();
+    regions.push(reads(0, 16, 31));
+    regions.push(reads(16_400, 0, 16));
+    regions.push(writes(16_416, 16, 16));
+    let fir = name(b"fir");
+    Task::of(
+        fir,
+        true,
+        1024,
+        fir,
+        10_000,
+        false,
+        ArrayVec::new(),
+        regions,
+    )
+}
+
+fn top() -> Task
+    ensures { result ≡ top_task }
+{
+    let mut regions = ArrayVec::new();
+    regions.push(reads(16_416, 2048, 2048));
+    regions.push(writes(32_800, 1, 1));
+    let top = name(b"top");
+    Task::of(
+        top,
+        true,
+        8,
+        top,
+        100_000,
+        false,
+        after(0, When::Any),
+        regions,
+    )
+}
+
+fn best() -> Task
+    ensures { result ≡ best_task }
+{
+    let mut regions = ArrayVec::new();
+    regions.push(reads(32_800, 0, 8));
+    regions.push(reads(32_810, 0, 1));
+    regions.push(writes(32_808, 0, 1));
+    let best = name(b"best");
+    Task::of(
+        best,
+        false,
+        1,
+        best,
+        1000,
+        false,
+        after(1, When::Any),
+        regions,
+    )
+}
+
+fn loud() -> Task
+    ensures { result ≡ loud_task }
+{
+    let mut regions = ArrayVec::new();
+    regions.push(writes(32_809, 0, 1));
+    let loud = name(b"loud");
+    Task::of(
+        loud,
+        false,
+        1,
+        loud,
+        100,
+        false,
+        after(2, When::Code1),
+        regions,
+    )
+}
+
+fn quiet() -> Task
+    ensures { result ≡ quiet_task }
+{
+    let mut regions = ArrayVec::new();
+    regions.push(writes(32_811, 0, 1));
+    let quiet = name(b"quiet");
+    Task::of(
+        quiet,
+        false,
+        1,
+        quiet,
+        100,
+        false,
+        after(2, When::Code0),
+        regions,
+    )
+}
+
+fn done() -> Task
+    ensures { result ≡ done_task }
+{
+    let mut deps = after(3, When::Any);
+    deps.push(Dep {
+        task: 4,
+        when: When::Any,
+    });
+    let mut regions = ArrayVec::new();
+    regions.push(reads(32_809, 0, 1));
+    regions.push(reads(32_811, 0, 1));
+    regions.push(writes(32_812, 0, 1));
+    let done = name(b"done");
+    Task::of(done, false, 1, done, 100, false, deps, regions)
+}
+
+fn tasks(alloc: Global) -> Result<Vec<Task>, Memory>
+    ensures { IfOk result (λ v. v.items ≡ made_tasks) }
+{
+    let mut tasks = Vec::new(alloc);
+    tasks.push(fir())?;
+    tasks.push(top())?;
+    tasks.push(best())?;
+    tasks.push(loud())?;
+    tasks.push(quiet())?;
+    tasks.push(done())?;
+    Ok(tasks)
+}
+
+/// The map of every bundle that is made.
+pub(crate) fn map(alloc: Global) -> Result<Map, Memory>
+    ensures { IfOk result (λ m. m ≡ made_map) }
+{
+    let tasks = tasks(alloc)?;
+    let order = Vec::from_slice(alloc, &[0, 1, 2, 3, 4, 5])?;
+    Ok(Map::of(32_816, 16, 2, tasks, order))
+}
