@@ -1,0 +1,14 @@
+pub mod Printed
+pub mod Reading
+pub mod Places
+pub mod Latest
+pub mod Crowds
+pub mod Recorded
+pub mod Judged
+pub mod SerialEntries
+pub mod Fits
+pub mod Tokens
+pub mod Again
+pub mod Ordered
+pub mod Sequenced
+pub mod SerialLegal

@@ -1,0 +1,157 @@
+-- Looking for the least place by going up.
+use Rattle.std.proofs.Common.{◌≡◌, ℕ, zero, suc, ◌+◌, ◌-◌, ◌*◌, ◌<◌, ◌≤◌, Bool, true, false, not, ◌||◌, eqb, ltb, cond, List, [], ◌∷◌, length, take, set, get_or, Option, Some, None, refl, sym, ap, ◌∙◌, arith, eqb-true}
+use Rattle.std.specs.Prelude.{is_none}
+use Rattle.std.proofs.lemmas.List.{length-set}
+use Rattle.std.proofs.lemmas.Bool.Decides.{nat_tests}
+use Rattle.plural_trace.specs.Busy.{AllRise}
+use Rattle.std.proofs.Common.{◌⊎◌, inl, inr, ⊎_elim}
+use Rattle.plural_trace.specs.Least.{least, or_else}
+use Rattle.plural_trace.specs.Rules.{no_entry, entry_at, is_drawn, breaks_tickets}
+use Rattle.plural_trace.specs.declared.entry.Entry.{Entry}
+
+pub least_next : (p : ℕ → Bool) (i : ℕ) → least p i ≡ None → p i ≡ false → least p (i + 1) ≡ None
+least_next p i e f =
+    ap (least p) (let s : i + 1 ≡ suc i = omega arith in s)
+    ∙ ap (λ (o : Option ℕ). or_else o (cond (p i) (Some i) None)) e ∙ ap (λ b. cond b (Some i) None) f
+
+at_least : (p : ℕ → Bool) (i d : ℕ) → least p i ≡ None → p i ≡ true → least p (suc i + d) ≡ Some i
+at_least p i zero e t = ap (least p) (let s : suc i + 0 ≡ suc i = omega arith in s) ∙ ap (λ (o : Option ℕ). or_else o (cond (p i) (Some i) None)) e ∙ ap (λ b. cond b (Some i) None) t
+at_least p i (suc d) e t = ap (least p) (let s : suc i + suc d ≡ suc (suc i + d) = omega arith in s) ∙ ap (λ (o : Option ℕ). or_else o (cond (p (suc i + d)) (Some (suc i + d)) None)) (at_least p i d e t)
+
+pub least_found : (p : ℕ → Bool) (i n : ℕ) → i < n → least p i ≡ None → p i ≡ true → Some i ≡ least p n
+least_found p i n lt e t = sym (at_least p i (n - suc i) e t) ∙ ap (least p) (let s : suc i + (n - suc i) ≡ n = omega arith in s)
+
+-- one more entry
+pub is_drawn-next : (x i : ℕ) (es : List Entry) → i < length es → is_drawn x (take (i + 1) es) ≡ (is_drawn x (take i es) || (eqb (entry_at es i).start x || eqb (entry_at es i).end_at x))
+is_drawn-next x i es lt = ap (λ n. is_drawn x (take n es)) (let s : i + 1 ≡ suc i = omega arith in s) ∙ more x i es lt
+  where
+    or_nothing : (b : Bool) → (b || false) ≡ b
+    or_nothing true = refl
+    or_nothing false = refl
+
+    or_turned : (a b c d : Bool) → (a || b || (c || d)) ≡ ((a || b || c) || d)
+    or_turned true b c d = refl
+    or_turned false true c d = refl
+    or_turned false false c d = refl
+
+    more : (x i : ℕ) (es : List Entry) → i < length es → is_drawn x (take (suc i) es) ≡ (is_drawn x (take i es) || (eqb (entry_at es i).start x || eqb (entry_at es i).end_at x))
+    more x i [] lt = absurd (let h : ⊥ = omega arith in h)
+    more x zero (e ∷ es) lt = or_nothing _
+    more x (suc i) (e ∷ es) lt = ap (λ b. eqb e.start x || eqb e.end_at x || b) (more x i es (omega arith)) ∙ or_turned (eqb e.start x) (eqb e.end_at x) (is_drawn x (take i es)) _
+
+or_same : (a b c d c' d' : Bool) → (a ≡ false → b ≡ false → (c ≡ c') × (d ≡ d')) → (a || b || c || d) ≡ (a || b || c' || d')
+or_same true b c d c' d' h = refl
+or_same false true c d c' d' h = refl
+or_same false false c d c' d' h = let e = h refl refl in ap (λ x. x || d) e.0 ∙ ap (λ x. c' || x) e.1
+
+below_when : (a b : ℕ) → not (ltb a b) ≡ false → a < b
+below_when a b e = grind (arith, nat_tests)
+
+-- the test by marks is the test by looking back
+pub tickets_test : (es : List Entry) (marks : List Bool) (i : ℕ) → ((x : ℕ) → x < 2 * length es → get_or marks x false ≡ is_drawn x (take i es)) →
+    (not (ltb (entry_at es i).start (entry_at es i).end_at) || not (ltb (entry_at es i).end_at (2 * length es)) || get_or marks (entry_at es i).start false || get_or marks (entry_at es i).end_at false) ≡ breaks_tickets es i
+tickets_test es marks i h =
+    let e = entry_at es i in
+    or_same _ _ _ _ _ _ (λ a b.
+    let x : e.start < e.end_at = below_when e.start e.end_at a in
+    let y : e.end_at < 2 * length es = below_when e.end_at (2 * length es) b in
+    (h e.start (omega arith), h e.end_at y))
+
+fits_when : (es : List Entry) (i : ℕ) → breaks_tickets es i ≡ false → ((entry_at es i).start < (entry_at es i).end_at) × ((entry_at es i).end_at < 2 * length es)
+fits_when es i e =
+    let o = or_none _ _ _ _ e in
+    (below_when (entry_at es i).start (entry_at es i).end_at o.0, below_when (entry_at es i).end_at (2 * length es) o.1)
+  where
+    or_none : (a b c d : Bool) → (a || b || c || d) ≡ false → (a ≡ false) × (b ≡ false)
+    or_none true b c d e = absurd (cc e)
+    or_none false true c d e = absurd (cc e)
+    or_none false false c d e = (refl, refl)
+
+mark_two : (m : List Bool) (s t x : ℕ) → s < length m → t < length m → get_or (set (set m s true) t true) x false ≡ (get_or m x false || (eqb s x || eqb t x))
+mark_two m s t x ls lt =
+    mark (set m s true) t x (omega (arith, length-set m s true)) ∙ ap (λ b. b || eqb t x) (mark m s x ls) ∙ turned (get_or m x false) (eqb s x) (eqb t x)
+  where
+    turned : (a b c : Bool) → ((a || b) || c) ≡ (a || (b || c))
+    turned true b c = refl
+    turned false b c = refl
+
+    or_true : (b : Bool) → (b || true) ≡ true
+    or_true true = refl
+    or_true false = refl
+
+    or_false : (b : Bool) → (b || false) ≡ b
+    or_false true = refl
+    or_false false = refl
+
+    mark : (m : List Bool) (s x : ℕ) → s < length m → get_or (set m s true) x false ≡ (get_or m x false || eqb s x)
+    mark [] s x l = absurd (let h : ⊥ = omega arith in h)
+    mark (b ∷ m) zero zero l = sym (or_true b)
+    mark (b ∷ m) zero (suc x) l = sym (or_false (get_or m x false)) ∙ ap (λ e. get_or m x false || e) (let z : false ≡ eqb 0 (suc x) = grind (arith, nat_tests) in z)
+    mark (b ∷ m) (suc s) zero l = sym (or_false b) ∙ ap (λ e. b || e) (let z : false ≡ eqb (suc s) 0 = grind (arith, nat_tests) in z)
+    mark (b ∷ m) (suc s) (suc x) l = mark m s x (omega arith) ∙ ap (λ e. get_or m x false || e) (grind (arith, nat_tests))
+
+pub marks_next : (es : List Entry) (marks : List Bool) (i x : ℕ) → length marks ≡ 2 * length es → i < length es → breaks_tickets es i ≡ false → x < 2 * length es →
+    get_or marks x false ≡ is_drawn x (take i es) →
+    get_or (set (set marks (entry_at es i).start true) (entry_at es i).end_at true) x false ≡ is_drawn x (take (i + 1) es)
+marks_next es marks i x room lt fine below h =
+    let f = fits_when es i fine in
+    let a = f.0 in let b = f.1 in
+    mark_two marks (entry_at es i).start (entry_at es i).end_at x (omega arith) (omega arith)
+    ∙ ap (λ m. m || (eqb (entry_at es i).start x || eqb (entry_at es i).end_at x)) h ∙ sym (is_drawn-next x i es lt)
+
+pub last_step : (p : ℕ → Bool) (n : ℕ) → least p n ≡ None → is_none (least p (suc n)) ≡ false → p n ≡ true
+last_step p n e f = ends (least p n) (p n) n e f
+  where
+    ends : (o : Option ℕ) (b : Bool) (n : ℕ) → o ≡ None → is_none (or_else o (cond b (Some n) None)) ≡ false → b ≡ true
+    ends (Some i) b n e f = absurd (cc e)
+    ends None true n e f = refl
+    ends None false n e f = absurd (cc f)
+
+-- tests that agree below n have one least place there
+pub least_same : (p q : ℕ → Bool) (n : ℕ) → ((i : ℕ) → i < n → p i ≡ q i) → least p n ≡ least q n
+least_same p q zero h = refl
+least_same p q (suc n) h =
+    ap (λ (o : Option ℕ). or_else o (cond (p n) (Some n) None)) (least_same p q n (λ i lt. h i (omega arith)))
+    ∙ ap (λ b. or_else (least q n) (cond b (Some n) None)) (h n (omega arith))
+
+least_more : (p : ℕ → Bool) (i m d : ℕ) → least p m ≡ Some i → least p (m + d) ≡ Some i
+least_more p i m zero e = ap (least p) (let s : m + 0 ≡ m = omega arith in s) ∙ e
+least_more p i m (suc d) e = ap (least p) (let s : m + suc d ≡ suc (m + d) = omega arith in s) ∙ ap (λ (o : Option ℕ). or_else o (cond (p (m + d)) (Some (m + d)) None)) (least_more p i m d e)
+
+pub least_stays : (p : ℕ → Bool) (i m n : ℕ) → m ≤ n → Some i ≡ least p m → Some i ≡ least p n
+least_stays p i m n le e = sym (least_more p i m (n - m) (sym e)) ∙ ap (least p) (let s : m + (n - m) ≡ n = omega arith in s)
+
+pub least_none : (p : ℕ → Bool) (i n : ℕ) → i < n → least p n ≡ None → p i ≡ false
+least_none p i n lt e = ⊎_elim (λ t. absurd (clash p i n lt t e)) (λ f. f) (bool_cases (p i))
+  where
+    bool_cases : (b : Bool) → (b ≡ true) ⊎ (b ≡ false)
+    bool_cases true = inl refl
+    bool_cases false = inr refl
+
+    first : (p : ℕ → Bool) (n : ℕ) → least p (suc n) ≡ None → (least p n ≡ None) × (p n ≡ false)
+    first p n e = parts (least p n) (p n) n e
+      where
+        parts : (o : Option ℕ) (b : Bool) (n : ℕ) → or_else o (cond b (Some n) None) ≡ None → (o ≡ None) × (b ≡ false)
+        parts (Some i) b n h = absurd (cc h)
+        parts None true n h = absurd (cc h)
+        parts None false n h = (refl, refl)
+
+    clash : (p : ℕ → Bool) (i n : ℕ) → i < n → p i ≡ true → least p n ≡ None → ⊥
+    clash p i zero lt t e = omega arith
+    clash p i (suc n) lt t e =
+        let f = first p n e in
+        ⊎_elim (λ k. let s : p i ≡ false = ap p (eqb-true i n k) ∙ f.1 in cc (sym t ∙ s)) (λ k. clash p i n (grind (arith, nat_tests)) t f.0) (bool_cases (eqb i n))
+
+pub rise_when : (es : List Entry) → least (breaks_tickets es) (length es) ≡ None → AllRise es
+rise_when es e = λ k d lt.
+    let f = fits_when es k (least_none (breaks_tickets es) k (length es) lt e) in
+    let at = get_or_any es k d no_entry lt in
+    let a = ap (λ (e : Entry). e.start) at in
+    let b = ap (λ (e : Entry). e.end_at) at in
+    let low = f.0 in
+    omega arith
+  where
+    get_or_any : (es : List Entry) (i : ℕ) (d d' : Entry) → i < length es → get_or es i d ≡ get_or es i d'
+    get_or_any [] i d d' lt = absurd (let h : ⊥ = omega arith in h)
+    get_or_any (e ∷ es) zero d d' lt = refl
+    get_or_any (e ∷ es) (suc i) d d' lt = get_or_any es i d d' (omega arith)

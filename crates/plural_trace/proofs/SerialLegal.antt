@@ -1,0 +1,222 @@
+-- The log of a serial run is legal.
+use Rattle.std.proofs.Common.{◌≡◌, ℕ, zero, suc, ◌+◌, ◌-◌, ◌*◌, ◌<◌, ◌≤◌, Bool, true, false, not, ◌||◌, ◌&&◌, eqb, ltb, cond, List, [], ◌∷◌, length, map, take, get_or, Option, Some, None, refl, sym, ap, ◌∙◌, arith, eqb-true, inl, inr}
+use Rattle.std.specs.Prelude.{slice_index}
+use Rattle.std.specs.List.{All, list_any}
+use Rattle.std.specs.Option.{option_map_or}
+use Rattle.std.proofs.lemmas.Bool.{cases_lt, and_parts, eq-eqb, lt-ltb}
+use Rattle.std.proofs.lemmas.List.{length-map}
+use Rattle.std.proofs.lemmas.List.Folds.{list_any_none, list_any_at}
+use Rattle.plural_core.specs.declared.end.End.{End}
+use Rattle.plural_core.specs.declared.end.End.TheVariants as end
+use Rattle.plural_map.specs.declared.outcome.Outcome.{Outcome}
+use Rattle.plural_map.specs.declared.outcome.Outcome.TheVariants as outcome
+use Rattle.plural_map.specs.Value.{TaskValue}
+use Rattle.plural_reach.specs.declared.tables.Reach.{Reach}
+use Rattle.plural_reach.specs.Tables.{IsReachOf, says_before}
+use Rattle.plural_reach.specs.Chains.{Before}
+use Rattle.plural_serial.specs.declared.record_.Record.{Record}
+use Rattle.plural_serial.specs.Answer.{AnswerValue}
+use Rattle.plural_trace.specs.declared.entry.Entry.{Entry}
+use Rattle.plural_trace.specs.declared.verdict.Verdict.TheVariants.{Yes}
+use Rattle.plural_trace.specs.Least.{least, or_else}
+use Rattle.plural_trace.specs.Rules.{no_entry, entry_at, is_of, record_for, is_same_end, is_same_record, is_recorded, has_instance, lacks_instance, breaks_records, is_drawn, breaks_tickets, ends_late, breaks_order, is_busy, overlaps, breaks_cores, breaks_rise, is_same_outcome, breaks_outcomes, breaks_words}
+use Rattle.plural_trace.specs.SerialLog.{serial_entry, serial_entries, serial_log}
+use Rattle.plural_trace.specs.Verdicts.{judged}
+use Rattle.plural_trace.specs.Laws.{SerialIsLegal}
+use Rattle.plural_trace.proofs.Recorded.{record_test, missing_test}
+use Rattle.plural_trace.proofs.Judged.{outcome_test, records_within}
+use Rattle.plural_trace.proofs.Sequenced.{IsLater, InOrder, records_in_order}
+
+-- ---- where a test holds nowhere
+
+none_at_all : (p : ℕ → Bool) (n : ℕ) → ((i : ℕ) → i < n → p i ≡ false) → least p n ≡ None
+none_at_all p zero h = refl
+none_at_all p (suc n) h = ap (λ (o : Option ℕ). or_else o (cond (p n) (Some n) None)) (none_at_all p n (λ i l. h i (omega arith))) ∙ ap (λ b. cond b (Some n) None) (h n (omega arith))
+
+no_record : Record
+no_record = no_entry.rec
+
+-- ---- the entries of a serial log
+
+serial_long : (j : ℕ) (rs : List Record) → length (serial_entries j rs) ≡ length rs
+serial_long j [] = refl
+serial_long j (r ∷ rs) = let h = serial_long (j + 1) rs in omega arith
+
+serial_at : (j : ℕ) (rs : List Record) (i : ℕ) → i < length rs → entry_at (serial_entries j rs) i ≡ serial_entry (j + i) (get_or rs i no_entry.rec)
+serial_at j [] i l = absurd (omega arith)
+serial_at j (r ∷ rs) zero l = ap (λ n. serial_entry n r) (let z : j ≡ j + 0 = omega arith in z)
+serial_at j (r ∷ rs) (suc i) l = serial_at (j + 1) rs i (omega arith) ∙ ap (λ n. serial_entry n (get_or rs i no_entry.rec)) (let z : j + 1 + i ≡ j + suc i = omega arith in z)
+
+serial_take : (j : ℕ) (rs : List Record) (i : ℕ) → take i (serial_entries j rs) ≡ serial_entries j (take i rs)
+serial_take j rs zero = refl
+serial_take j [] (suc i) = refl
+serial_take j (r ∷ rs) (suc i) = ap (λ (es : List Entry). serial_entry j r ∷ es) (serial_take (j + 1) rs i)
+
+long_take : (rs : List Record) (i : ℕ) → i < length rs → length (take i rs) ≡ i
+long_take rs zero l = refl
+long_take [] (suc i) l = absurd (omega arith)
+long_take (r ∷ rs) (suc i) l = let h = long_take rs i (omega arith) in omega arith
+
+-- ---- rule 1
+
+same_end : (e : End) → is_same_end e e ≡ true
+same_end end.Code0 = refl
+same_end end.Code1 = refl
+same_end (end.Trap cause pc) = rw (eq-eqb cause cause refl, eq-eqb pc pc refl) refl
+same_end end.Exhausted = refl
+
+same_record : (r : Record) → is_same_record r r ≡ true
+same_record r =
+    rw (eq-eqb r.t r.t refl, eq-eqb r.k r.k refl, same_end r.«end», eq-eqb r.instructions r.instructions refl, eq-eqb r.loads r.loads refl, eq-eqb r.misses r.misses refl, eq-eqb r.stores r.stores refl) refl
+
+of_itself : (r : Record) → is_of r.t r.k r ≡ true
+of_itself r = rw (eq-eqb r.t r.t refl, eq-eqb r.k r.k refl) refl
+
+other_instance : (tasks : List TaskValue) (r s : Record) → IsLater tasks r s → is_of s.t s.k r ≡ false
+other_instance tasks r s h = by (is_of s.t s.k r) refl
+  where
+    by : (b : Bool) → is_of s.t s.k r ≡ b → b ≡ false
+    by true e = let p = and_parts (eqb r.t s.t) (eqb r.k s.k) e in absurd (h.other (eqb-true r.t s.t p.0) (eqb-true r.k s.k p.1))
+    by false e = refl
+
+record_back : (tasks : List TaskValue) (rs : List Record) (i : ℕ) (d : Record) → InOrder tasks rs → i < length rs → record_for (get_or rs i d).t (get_or rs i d).k rs ≡ Some (get_or rs i d)
+record_back tasks [] i d h l = absurd (omega arith)
+record_back tasks (r ∷ rs) zero d h l = rw (of_itself r) refl
+record_back tasks (r ∷ rs) (suc i) d h l = rw (other_instance tasks r (get_or rs i d) (h.1 i d (omega arith))) (record_back tasks rs i d h.2 (omega arith))
+
+earlier_none : (tasks : List TaskValue) (rs : List Record) (i : ℕ) (d : Record) → InOrder tasks rs → i < length rs → list_any (is_of (get_or rs i d).t (get_or rs i d).k) (take i rs) ≡ false
+earlier_none tasks rs zero d h l = refl
+earlier_none tasks [] (suc i) d h l = absurd (omega arith)
+earlier_none tasks (r ∷ rs) (suc i) d h l = rw (other_instance tasks r (get_or rs i d) (h.1 i d (omega arith))) (earlier_none tasks rs i d h.2 (omega arith))
+
+has_serial : (t k j : ℕ) (rs : List Record) → has_instance t k (serial_entries j rs) ≡ list_any (is_of t k) rs
+has_serial t k j [] = refl
+has_serial t k j (r ∷ rs) = ap (λ b. is_of t k r || b) (has_serial t k (j + 1) rs)
+
+recorded_true : (tasks : List TaskValue) (rs : List Record) (i : ℕ) (d : Record) → InOrder tasks rs → i < length rs → is_recorded rs (get_or rs i d) ≡ true
+recorded_true tasks rs i d h l = ap (λ o. option_map_or (is_same_record (get_or rs i d)) o false) (record_back tasks rs i d h l) ∙ same_record (get_or rs i d)
+
+records_fine : (tasks : List TaskValue) (rs : List Record) (i : ℕ) → InOrder tasks rs → i < length rs + 1 → breaks_records rs (serial_entries 0 rs) i ≡ false
+records_fine tasks rs i h l = elim (cases_lt i (length rs)) [
+  | inl lt ↦
+      let es = serial_entries 0 rs in
+      let r = get_or rs i no_entry.rec in
+      let at : entry_at es i ≡ serial_entry (0 + i) r = serial_at 0 rs i lt in
+      let test = record_test rs es i (rw (serial_long 0 rs) lt) in
+      let seen : has_instance r.t r.k (take i es) ≡ false = ap (has_instance r.t r.k) (serial_take 0 rs i) ∙ has_serial r.t r.k 0 (take i rs) ∙ earlier_none tasks rs i no_entry.rec h lt in
+      test ∙ rw at (rw (recorded_true tasks rs i no_entry.rec h lt, seen) refl)
+  | inr le ↦
+      let es = serial_entries 0 rs in
+      let whole : i ≡ length es = let n = serial_long 0 rs in omega arith in
+      rw whole (missing_test rs es ∙ lacks_none rs)
+]
+  where
+    lacks_none : (rs : List Record) → lacks_instance rs (serial_entries 0 rs) ≡ false
+    lacks_none rs =
+        list_any_none (λ r. not (has_instance r.t r.k (serial_entries 0 rs))) rs
+        (λ k d lt. ap not (has_serial (get_or rs k d).t (get_or rs k d).k 0 rs ∙ list_any_at (is_of (get_or rs k d).t (get_or rs k d).k) rs k d lt (of_itself (get_or rs k d))))
+
+-- ---- rules 2 to 5
+
+apart_from : (a x : ℕ) → a < x → eqb a x ≡ false
+apart_from a x l = by (eqb a x) refl
+  where
+    by : (b : Bool) → eqb a x ≡ b → b ≡ false
+    by true e = absurd (let s : a ≡ x = eqb-true a x e in let f : ⊥ = omega arith in f)
+    by false e = refl
+
+drawn_none : (j : ℕ) (rs : List Record) (x : ℕ) → 2 * (j + length rs) ≤ x → is_drawn x (serial_entries j rs) ≡ false
+drawn_none j [] x l = refl
+drawn_none j (r ∷ rs) x l = rw (apart_from (2 * j) x (omega arith), apart_from (2 * j + 1) x (omega arith)) (drawn_none (j + 1) rs x (omega arith))
+
+tickets_fine : (rs : List Record) (i : ℕ) → i < length rs → breaks_tickets (serial_entries 0 rs) i ≡ false
+tickets_fine rs i l =
+    let n = long_take rs i l in
+    rw (serial_at 0 rs i l, serial_take 0 rs i, serial_long 0 rs)
+    (rw (lt-ltb (2 * (0 + i)) (2 * (0 + i) + 1) (omega arith), lt-ltb (2 * (0 + i) + 1) (2 * length rs) (omega arith), drawn_none 0 (take i rs) (2 * (0 + i)) (omega arith), drawn_none 0 (take i rs) (2 * (0 + i) + 1) (omega arith)) refl)
+
+late_none : (before : ℕ → ℕ → Bool) (u start j : ℕ) (rs : List Record) → ((k : ℕ) → k < length rs → before (get_or rs k no_entry.rec).t u ≡ true → 2 * (j + k) + 1 < start) → ends_late before u start (serial_entries j rs) ≡ false
+late_none before u start j [] h = refl
+late_none before u start j (r ∷ rs) h = by (before r.t u) refl (late_none before u start (j + 1) rs (λ k l e. let a = h (suc k) (omega arith) e in omega arith))
+  where
+    by : (b : Bool) → before r.t u ≡ b → ends_late before u start (serial_entries (j + 1) rs) ≡ false → ((b && not (ltb (2 * j + 1) start)) || ends_late before u start (serial_entries (j + 1) rs)) ≡ false
+    by true e k = let a = h 0 (omega arith) e in rw (lt-ltb (2 * j + 1) start (omega arith)) k
+    by false e k = k
+
+free_between : (tasks : List TaskValue) (rs : List Record) (i k : ℕ) (d : Record) → InOrder tasks rs → i ≤ k → k < length rs → Before tasks (get_or rs k d).t (get_or rs i d).t → ⊥
+free_between tasks [] i k d h le l b = omega arith
+free_between tasks (r ∷ rs) zero zero d h le l b = h.0 b
+free_between tasks (r ∷ rs) zero (suc k) d h le l b = (h.1 k d (omega arith)).free b
+free_between tasks (r ∷ rs) (suc i) zero d h le l b = omega arith
+free_between tasks (r ∷ rs) (suc i) (suc k) d h le l b = free_between tasks rs i k d h.2 (omega arith) (omega arith) b
+
+order_fine : (tasks : List TaskValue) (r : Reach) (rs : List Record) (i : ℕ) → IsReachOf r tasks → InOrder tasks rs → All (λ (r : Record). r.t < length tasks) rs → i < length rs → breaks_order (says_before r) (serial_entries 0 rs) i ≡ false
+order_fine tasks r rs i table h within l =
+    rw (serial_at 0 rs i l)
+    (late_none (says_before r) (get_or rs i no_entry.rec).t (2 * (0 + i)) 0 rs (λ k lk e. elim (cases_lt k i) [
+      | inl lt ↦ omega arith
+      | inr le ↦ absurd (free_between tasks rs i k no_entry.rec h le lk ((table.exact (get_or rs k no_entry.rec).t (get_or rs i no_entry.rec).t (within i no_entry.rec l)).0 e))
+    ]))
+
+busy_none : (f : Entry) (j : ℕ) (rs : List Record) → 2 * (j + length rs) ≤ f.start → is_busy f (serial_entries j rs) ≡ false
+busy_none f j [] l = refl
+busy_none f j (r ∷ rs) l = by (eqb 0 f.core) (busy_none f (j + 1) rs (omega arith))
+  where
+    by : (b : Bool) → is_busy f (serial_entries (j + 1) rs) ≡ false → ((b && overlaps (serial_entry j r) f) || is_busy f (serial_entries (j + 1) rs)) ≡ false
+    by true k = rw (lt-ltb (2 * j + 1) f.start (omega arith)) k
+    by false k = k
+
+cores_fine : (rs : List Record) (i : ℕ) → i < length rs → breaks_cores 1 (serial_entries 0 rs) i ≡ false
+cores_fine rs i l =
+    let n = long_take rs i l in
+    rw (serial_at 0 rs i l, serial_take 0 rs i) (busy_none (serial_entry (0 + i) (get_or rs i no_entry.rec)) 0 (take i rs) (omega arith))
+
+rise_fine : (rs : List Record) (i : ℕ) → i < length rs → breaks_rise (serial_entries 0 rs) i ≡ false
+rise_fine rs zero l = refl
+rise_fine rs (suc i) l =
+    let back : suc i - 1 ≡ i = omega arith in
+    rw (serial_at 0 rs (suc i) l, back, serial_at 0 rs i (omega arith)) (rw (lt-ltb (2 * (0 + i)) (2 * (0 + suc i)) (omega arith)) (after_false (ltb 0 (suc i))))
+  where
+    after_false : (b : Bool) → (b && false) ≡ false
+    after_false true = refl
+    after_false false = refl
+
+-- ---- rules 6 and 7
+
+same_outcome : (o : Outcome) → is_same_outcome o o ≡ true
+same_outcome outcome.Ended0 = refl
+same_outcome outcome.Ended1 = refl
+same_outcome outcome.Skipped = refl
+same_outcome outcome.Failed = refl
+
+outcomes_fine : (os : List Outcome) (i : ℕ) → i < length os → breaks_outcomes (map (λ o. Some o) os) os i ≡ false
+outcomes_fine os i l = outcome_test os os i outcome.Ended0 outcome.Ended0 refl l ∙ ap not (same_outcome (get_or os i outcome.Ended0))
+
+words_fine : (ws : List ℕ) (i : ℕ) → breaks_words ws ws i ≡ false
+words_fine ws i = ap not (eq-eqb (slice_index ws i) (slice_index ws i) refl)
+
+-- ---- all seven
+
+judged_yes : (tasks : List TaskValue) (r : Reach) (a : AnswerValue) → IsReachOf r tasks → InOrder tasks a.records → All (λ (r : Record). r.t < length tasks) a.records
+    → judged a.records (map (λ o. Some o) a.outcomes) a.image (says_before r) (serial_log a) a.image ≡ Yes
+judged_yes tasks r a table h within =
+    let rs = a.records in
+    let es = serial_entries 0 rs in
+    let n = serial_long 0 rs in
+    let many = length-map a.outcomes (λ o. Some o) in
+    rw (
+      none_at_all (breaks_records rs es) (length es + 1) (λ i l. records_fine tasks rs i h (omega arith)),
+      none_at_all (breaks_tickets es) (length es) (λ i l. tickets_fine rs i (omega arith)),
+      none_at_all (breaks_order (says_before r) es) (length es) (λ i l. order_fine tasks r rs i table h within (omega arith)),
+      none_at_all (breaks_cores 1 es) (length es) (λ i l. cores_fine rs i (omega arith)),
+      none_at_all (breaks_rise es) (length es) (λ i l. rise_fine rs i (omega arith)),
+      none_at_all (breaks_outcomes (map (λ o. Some o) a.outcomes) a.outcomes) (length (map (λ o. Some o) a.outcomes)) (λ i l. outcomes_fine a.outcomes i (omega arith)),
+      none_at_all (breaks_words a.image a.image) (length a.image) (λ i l. words_fine a.image i),
+    ) refl
+
+-- The log of a serial run is legal, with its last memory.
+pub serial_is_legal : SerialIsLegal
+serial_is_legal p m a r limits run table =
+    let order : InOrder p.map.tasks a.records = rw run.records (records_in_order p m limits) in
+    let within : All (λ (r : Record). r.t < length p.map.tasks) a.records = rw run.records (records_within p m limits) in
+    sym (λ i. judged (run.records i) (run.outcomes i) (run.image i) (says_before r) (serial_log a) a.image) ∙ judged_yes p.map.tasks r a table order within

@@ -1,0 +1,5 @@
+use Rattle.plural_trace.proofs.Fits.{serial_fits}
+use Rattle.plural_trace.proofs.laws.serial_fits.Goals as goal
+
+pub returns : goal.returns
+returns c = serial_fits

@@ -1,0 +1,16 @@
+use Rattle.plural_trace.proofs.Reading.{reads_more, reads_all, line_first, closed_faultless}
+use Rattle.plural_trace.proofs.read.read_log.Goals as goal
+
+pub returns-in-Err-clause-answer : goal.returns-in-Err-clause-answer
+returns-in-Err-clause-answer c =
+    line_first c.args.map.now.tasks c.args.lines.now c.args.end c.loop-n.n _ _ _ c.loop-n-test.true c.loop-n.invariant (rw c.tasks-tasks.ensures.value at c.in-Err.ensures.fault)
+
+pub loop-n-preserved : goal.loop-n-preserved
+loop-n-preserved c =
+    reads_more c.args.map.now.tasks c.args.lines.now c.loop-n.n _ _ _ c.in-Ok.shape c.loop-n-test.true c.loop-n.invariant c.in-Ok.ensures.shape (rw c.tasks-tasks.ensures.value at c.in-Ok.ensures.fine)
+    (rw c.tasks-tasks.ensures.value at c.in_ok-add-in-Ok.ensures.ok)
+
+pub returns-clause-answer : goal.returns-clause-answer
+returns-clause-answer c =
+    let all = reads_all c.args.map.now.tasks c.args.lines.now c.loop-n.n c.loop-n.log c.loop-n-test.false c.loop-n.invariant in
+    (closed_faultless c.args.map.now.tasks c.args.lines.now c.args.end c.loop-n.log all (rw c.tasks-tasks.ensures.value at c.if-lines-tasks.false), all.value)

@@ -1,0 +1,139 @@
+//! Whether a log line fits behind the lines before it.
+ghost use Rattle.std.specs.Prelude.{◌≡◌, ◌<◌, ◌≤◌, bytes_eq, length, false, IfErr, IfOk, Some, None};
+ghost use Rattle.std.specs.List.{list_any};
+ghost use Rattle.plural_map.specs.Rules.{is_between, has_task};
+ghost use Rattle.plural_trace.specs.declared.fault.LogKind.TheVariants.{Form};
+ghost use Rattle.plural_trace.specs.Shape.{shape_of};
+ghost use Rattle.plural_trace.specs.Faults.{is_out_of_place, is_no_end, lacks_count, lacks_time, is_out_of_range, is_misnamed, is_too_many, least_kind, IsLineFault};
+
+use crate::fault::LogKind;
+use crate::line::{Counts, EndShape, LogLine, Times};
+use crate::log::Log;
+use crate::shape::shape_of;
+use plural_bytes::Name;
+use plural_map::Task;
+
+fn is_out_of_place(tasks: usize, n: usize, line: &LogLine) -> bool
+    ensures { result ≡ is_out_of_place tasks n line.now }
+{
+    match line {
+        LogLine::First { .. } => n != 0,
+        LogLine::Task { .. } => !(1 <= n && n <= tasks),
+        LogLine::Run { .. } | LogLine::End => n <= tasks,
+    }
+}
+
+fn is_between(low: u32, high: u32, n: Option<u32>) -> bool
+    ensures { result ≡ is_between low high n }
+{
+    match n {
+        None => false,
+        Some(n) => low <= n && n <= high,
+    }
+}
+
+fn is_no_end(end: EndShape) -> bool
+    ensures { result ≡ is_no_end end }
+{
+    match end {
+        EndShape::Trap { cause, .. } => !is_between(1, 9, cause),
+        EndShape::Code0 | EndShape::Code1 | EndShape::Spent => false,
+    }
+}
+
+fn lacks_count(counts: Counts) -> bool
+    ensures { result ≡ lacks_count counts }
+{
+    counts.instructions.is_none()
+        || counts.loads.is_none()
+        || counts.misses.is_none()
+        || counts.stores.is_none()
+}
+
+fn lacks_time(times: Times) -> bool
+    ensures { result ≡ lacks_time times }
+{
+    times.core.is_none() || times.start.is_none() || times.end_at.is_none()
+}
+
+fn is_out_of_range(line: &LogLine) -> bool
+    ensures { result ≡ is_out_of_range line.now }
+{
+    match *line {
+        LogLine::First { cores } => !is_between(1, 64, cores),
+        LogLine::Run {
+            k,
+            end,
+            counts,
+            times,
+            ..
+        } => k.is_none() || is_no_end(end) || lacks_count(counts) || lacks_time(times),
+        LogLine::Task { .. } | LogLine::End => false,
+    }
+}
+
+fn is_same(a: &Name, b: &Name) -> bool
+    ensures { result ≡ bytes_eq a.now b.now }
+{
+    a.bytes() == b.bytes()
+}
+
+fn has_task(tasks: &[Task], name: &Name) -> bool
+    ensures { result ≡ has_task tasks.now name.now }
+{
+    tasks.iter().any(|t| is_same(t.name(), name))
+}
+
+fn is_misnamed(tasks: &[Task], n: usize, line: &LogLine) -> bool
+    requires { is_out_of_place (length tasks.now) n line.now ≡ false }
+    ensures { result ≡ is_misnamed tasks.now n line.now }
+{
+    match line {
+        LogLine::Task { name, .. } => !is_same(tasks[n - 1].name(), name),
+        LogLine::Run { name, .. } => !has_task(tasks, name),
+        LogLine::First { .. } | LogLine::End => false,
+    }
+}
+
+fn is_too_many(log: &Log, line: &LogLine) -> bool
+    ensures { result ≡ is_too_many log.now line.now }
+{
+    match line {
+        LogLine::Run { .. } => log.entries().len() >= 65_536,
+        LogLine::First { .. } | LogLine::Task { .. } | LogLine::End => false,
+    }
+}
+
+/// The fault of a line of a shape behind `n` lines that spell the log, if it has one.
+fn least_kind(tasks: &[Task], n: usize, log: &Log, line: &LogLine) -> Option<LogKind>
+    ensures { result ≡ least_kind tasks.now n log.now line.now }
+{
+    if is_out_of_place(tasks.len(), n, line) {
+        return Some(LogKind::Form);
+    }
+    if is_out_of_range(line) {
+        return Some(LogKind::Number);
+    }
+    if is_misnamed(tasks, n, line) {
+        return Some(LogKind::Name);
+    }
+    if is_too_many(log, line) {
+        return Some(LogKind::Count);
+    }
+    None
+}
+
+/// The shape of a line behind `n` lines that spell the log, or its fault.
+pub(crate) fn checked(tasks: &[Task], n: usize, log: &Log, text: &[u8]) -> Result<LogLine, LogKind>
+    ensures shape { IfOk result (λ s. Some s ≡ shape_of text.now) }
+    ensures fine { IfOk result (λ s. least_kind tasks.now n log.now s ≡ None) }
+    ensures fault { IfErr result (λ kind. IsLineFault tasks.now n log.now text.now kind) }
+{
+    match shape_of(text) {
+        None => Err(LogKind::Form),
+        Some(line) => match least_kind(tasks, n, log, &line) {
+            Some(kind) => Err(kind),
+            None => Ok(line),
+        },
+    }
+}

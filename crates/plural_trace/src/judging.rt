@@ -1,0 +1,96 @@
+//! The verdict on a log.
+ghost use Rattle.std.specs.Prelude.{◌≡◌, ◌<◌, ◌≤◌, ◌^◌, length, map, IfOk, Some};
+ghost use Rattle.std.specs.List.{All};
+ghost use Rattle.plural_reach.specs.declared.tables.Reach.{Reach};
+ghost use Rattle.plural_reach.specs.Tables.{IsReachOf, says_before};
+ghost use Rattle.plural_serial.specs.declared.record_.Record.{Record};
+ghost use Rattle.plural_trace.specs.declared.verdict.Verdict.TheVariants.{No};
+ghost use Rattle.plural_trace.specs.Verdicts.{judged, verdict_of};
+
+use crate::compare::{outcome_fault, word_fault};
+use crate::cores::core_fault;
+use crate::log::Log;
+use crate::order::order_fault;
+use crate::records::record_fault;
+use crate::rise::rise_fault;
+use crate::tickets::ticket_fault;
+use crate::verdict::Verdict;
+use plural_bytes::Memory;
+use plural_reach::{Reach, reach};
+use plural_serial::{Answer, Program, serial};
+use std::alloc::Global;
+
+fn no(rule: u8, at: usize) -> Verdict
+    requires { at < 2 ^ 32 }
+    ensures { result ≡ No rule at }
+{
+    Verdict::No {
+        rule,
+        at: at as u32,
+    }
+}
+
+/// The verdict on a log, by what the serial run left and which of its tasks come before which.
+fn judge(
+    alloc: Global,
+    answer: &Answer,
+    reach: &Reach,
+    tasks: usize,
+    log: &Log,
+    last: &[u32],
+) -> Result<Verdict, Memory>
+    requires few_tasks { tasks ≤ 256 }
+    requires tasks { All (λ (r : Record). r.t < tasks) answer.now.records }
+    requires few { length log.now.entries ≤ 65536 }
+    requires one_each { length log.now.outcomes ≡ length answer.now.outcomes }
+    requires few_outcomes { length answer.now.outcomes ≤ 256 }
+    requires words { length last.now ≡ length answer.now.image }
+    requires few_words { length answer.now.image ≤ 1048576 }
+    ensures { IfOk result (λ v. v ≡ judged answer.now.records (map (λ o. Some o) answer.now.outcomes) answer.now.image (says_before reach.now) log.now last.now) }
+{
+    let entries = log.entries();
+    if let Some(at) = record_fault(alloc, answer.records(), entries)? {
+        return Ok(no(1, at));
+    }
+    if let Some(at) = ticket_fault(alloc, entries)? {
+        return Ok(no(2, at));
+    }
+    if let Some(at) = order_fault(alloc, entries, reach, tasks)? {
+        return Ok(no(3, at));
+    }
+    if let Some(at) = core_fault(alloc, entries, log.cores() as usize)? {
+        return Ok(no(4, at));
+    }
+    if let Some(at) = rise_fault(entries) {
+        return Ok(no(5, at));
+    }
+    if let Some(at) = outcome_fault(answer.outcomes(), log.outcomes()) {
+        return Ok(no(6, at));
+    }
+    if let Some(at) = word_fault(answer.image(), last) {
+        return Ok(no(7, at));
+    }
+    Ok(Verdict::Yes)
+}
+
+/// Whether a log of a run of the program from this opening image, which left the memory `last`, is legal.
+///
+/// The log has one outcome for each task and at most 65,536 entries.
+pub fn legal(
+    alloc: Global,
+    program: &Program,
+    start: &[u32],
+    log: &Log,
+    last: &[u32],
+) -> Result<Verdict, Memory>
+    requires start { length start.now ≡ program.now.map.words }
+    requires last { length last.now ≡ program.now.map.words }
+    requires one_each { length log.now.outcomes ≡ length program.now.map.tasks }
+    requires few { length log.now.entries ≤ 65536 }
+    ensures { IfOk result (λ v. (r : Reach) → IsReachOf r program.now.map.tasks → v ≡ verdict_of program.now start.now (says_before r) log.now last.now) }
+{
+    let answer = serial(alloc, program, start)?;
+    let map = program.map();
+    let reach = reach(map);
+    judge(alloc, &answer, &reach, map.tasks().len(), log, last)
+}

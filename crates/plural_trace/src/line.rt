@@ -1,0 +1,56 @@
+use plural_bytes::Name;
+use plural_map::Outcome;
+
+/// How an instance ended, as an entry's line tells it.
+#[derive(Clone, Copy, Debug)]
+pub enum EndShape {
+    /// `code 0`
+    Code0,
+    /// `code 1`
+    Code1,
+    /// `trap X pc PPPPPPPP`
+    Trap { cause: Option<u32>, pc: u32 },
+    /// `spent`
+    Spent,
+}
+
+/// `n I loads L misses M stores S`
+#[derive(Clone, Copy, Debug)]
+pub struct Counts {
+    pub instructions: Option<u32>,
+    pub loads: Option<u32>,
+    pub misses: Option<u32>,
+    pub stores: Option<u32>,
+}
+
+/// `core C from A to B`
+#[derive(Clone, Copy, Debug)]
+pub struct Times {
+    pub core: Option<u32>,
+    pub start: Option<u32>,
+    pub end_at: Option<u32>,
+}
+
+/// A log line by its shape. A number is `None` where it is above 4,294,967,295.
+#[derive(Clone, Copy, Debug)]
+pub enum LogLine {
+    /// `log 1 cores N`
+    First {
+        cores: Option<u32>,
+    },
+    /// `task NAME ended 0`, `task NAME ended 1`, `task NAME skipped` and `task NAME failed`
+    Task {
+        name: Name,
+        outcome: Outcome,
+    },
+    /// `run NAME K END n I loads L misses M stores S core C from A to B`
+    Run {
+        name: Name,
+        k: Option<u32>,
+        end: EndShape,
+        counts: Counts,
+        times: Times,
+    },
+    /// The end of the section: a line without tokens, which no content line is.
+    End,
+}
