@@ -1,0 +1,6 @@
+pub mod Staged
+pub mod Sectioned
+pub mod Named
+pub mod Past
+pub mod Whole
+pub mod Parted
