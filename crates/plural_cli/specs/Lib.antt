@@ -9,6 +9,16 @@ pub use Rattle.plural_asm.specs.Words
 pub use Rattle.plural_asm.specs.Rules
 pub use Rattle.plural_asm.specs.WordText
 pub use Rattle.plural_serial.specs.Serial
+pub use Rattle.plural_serial.specs.Answer as SerialAnswer
+pub use Rattle.plural_trace.specs.SerialLog
+pub use Rattle.plural_trace.specs.Verdicts
+pub use Rattle.plural_reach.specs.Tables
+pub use Rattle.plural_output.specs.Text as OutputText
+pub use Rattle.plural_output.specs.Parts as OutputParts
+pub use Rattle.plural_output.specs.Rules as OutputRules
+pub use Rattle.plural_output.specs.Value as OutputValues
+pub use Rattle.plural_output.specs.Answer as OutputAnswer
+pub use Rattle.plural_generator.specs.Text as MadeText
 pub use Rattle.plural_bundle.specs.Rules as BundleRules
 pub use Rattle.plural_crew.specs.Clashes
 pub use Rattle.plural_bundle.specs.Value
@@ -22,4 +32,6 @@ pub mod Lines
 pub mod Reading
 pub mod Check
 pub mod Run
+pub mod Made
+pub mod Verify
 pub mod Output

@@ -1,28 +1,28 @@
 -- What `serial` and `run` answer to a bundle.
 use Rattle.std.specs.Prelude.{ℕ, ◌≡◌, ◌⊎◌, List, Option, if◌then◌else◌}
 use Rattle.std.specs.List.{list_any}
-use Rattle.plural_bytes.specs.Lines.{TextLine}
 use Rattle.plural_map.specs.declared.outcome.Outcome.{Outcome}
 use Rattle.plural_map.specs.Decisions.{is_failed}
-use Rattle.plural_serial.specs.Serial.{Run, serial_of}
-use Rattle.plural_bundle.specs.Value.{BundleValue, bundle_of}
+use Rattle.plural_serial.specs.Serial.{serial_of}
+use Rattle.plural_serial.specs.Answer.{AnswerValue, IsSerial}
+use Rattle.plural_trace.specs.SerialLog.{serial_log}
+use Rattle.plural_output.specs.Text.{output_text}
+use Rattle.plural_bundle.specs.Value.{BundleValue}
 use Rattle.plural_crew.specs.Clashes.{IsAccepted}
 use Rattle.plural_cli.specs.Lines.{ToBundle}
 use Rattle.plural_cli.specs.Check.{IsClashing}
-use Rattle.plural_cli.specs.Texts.{image_part}
 
 -- 1 where a task is failed, else 0.
 abbrev pub status_of : List (Option Outcome) → ℕ
 status_of outcomes = if list_any is_failed outcomes then 1 else 0
 
--- The serial run of a bundle's program over its image.
-abbrev pub run_of : BundleValue → Run
-run_of b = serial_of b.program b.image
-
--- The answer of a serial run: the status tells whether a task is failed, and the text spells the last memory.
+-- The answer of a serial run: the status tells whether a task is failed, and the text spells the log of the run, one core
+-- with a pair of tickets for each instance in turn, and the last memory.
 pub record IsRan (b : BundleValue) (status : ℕ) (text : List ℕ) : Type 0 where
-  pub status_is : status ≡ status_of (run_of b).outcomes
-  pub text_is : text ≡ image_part (run_of b).memory
+  pub run : AnswerValue
+  pub serial : IsSerial b.program b.image run
+  pub status_is : status ≡ status_of (serial_of b.program b.image).outcomes
+  pub text_is : text ≡ output_text b.program.map (serial_log run) run.image
 
 -- `serial` answers each bundle by its serial run.
 abbrev pub IsSerialAnswer : (bytes : List ℕ) (status : ℕ) (text : List ℕ) → Type 0

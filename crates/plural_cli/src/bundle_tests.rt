@@ -14,7 +14,9 @@ struct Row {
     kernels: &'static str,
     image: &'static str,
     status: u8,
-    /// The image's lines, or the whole text where the status is 3.
+    /// The lines of the log behind its first.
+    log: &'static str,
+    /// The image's lines.
     text: &'static str,
 }
 
@@ -34,10 +36,8 @@ fn bundle(alloc: Global, row: &Row) -> Result<Vec<u8>, AllocError> {
 /// The text that the program has to answer.
 fn expected(alloc: Global, row: &Row) -> Result<Vec<u8>, AllocError> {
     let mut text = Vec::new(alloc);
-    if row.status == 3 {
-        text.extend_from_slice(row.text.as_bytes())?;
-        return Ok(text);
-    }
+    text.extend_from_slice(b"log 1 cores 1\n")?;
+    text.extend_from_slice(row.log.as_bytes())?;
     text.extend_from_slice(b"[image]\n")?;
     text.extend_from_slice(row.text.as_bytes())?;
     text.extend_from_slice(b"[end]\n")?;
@@ -79,6 +79,12 @@ fn check_rows<R: Threads + Sync + Abort>(rt: &R, alloc: Global, rows: &[Row]) ->
 
 const PUT: &str = "put: slli x5, x10, 2\nsw x10, 0(x5)\nli x10, 0\necall\n";
 
+const PUT_LOG: &str = "task put ended 0\n\
+    run put 0 code 0 n 4 loads 0 misses 0 stores 1 core 0 from 0 to 1\n\
+    run put 1 code 0 n 4 loads 0 misses 0 stores 1 core 0 from 2 to 3\n\
+    run put 2 code 0 n 4 loads 0 misses 0 stores 1 core 0 from 4 to 5\n\
+    run put 3 code 0 n 4 loads 0 misses 0 stores 1 core 0 from 6 to 7\n";
+
 const DIVIDE: &str = "d: li x5, 7\ndiv x6, x5, x0\nsw x6, 0(x0)\nrem x6, x5, x0\nsw x6, 4(x0)\n\
     li x5, 0x80000000\nli x7, -1\ndiv x6, x5, x7\nsw x6, 8(x0)\nrem x6, x5, x7\nsw x6, 12(x0)\necall\n";
 
@@ -94,6 +100,7 @@ fn bundles_are_answered_by_the_last_memory_of_their_serial_run(
             kernels: "",
             image: "",
             status: 0,
+            log: "",
             text: "",
         },
         // A sum.
@@ -102,6 +109,7 @@ fn bundles_are_answered_by_the_last_memory_of_their_serial_run(
             kernels: "start: lw x5, 0(x0)\nlw x6, 4(x0)\nadd x7, x5, x6\nsw x7, 8(x0)\necall\n",
             image: "00000000: 00000007 00000023\n",
             status: 0,
+            log: "task add ended 0\nrun add 0 code 0 n 5 loads 2 misses 1 stores 1 core 0 from 0 to 1\n",
             text: "00000000: 00000007 00000023 0000002a 00000000 00000000 00000000 00000000 00000000\n",
         },
         // Each of four instances its own word.
@@ -110,6 +118,7 @@ fn bundles_are_answered_by_the_last_memory_of_their_serial_run(
             kernels: PUT,
             image: "",
             status: 0,
+            log: PUT_LOG,
             text: "00000000: 00000000 00000001 00000002 00000003 00000000 00000000 00000000 00000000\n",
         },
         // Division by zero, and the least number by -1.
@@ -118,6 +127,7 @@ fn bundles_are_answered_by_the_last_memory_of_their_serial_run(
             kernels: DIVIDE,
             image: "",
             status: 0,
+            log: "task d ended 0\nrun d 0 code 0 n 12 loads 0 misses 0 stores 4 core 0 from 0 to 1\n",
             text: "00000000: ffffffff 00000007 80000000 00000000 00000000 00000000 00000000 00000000\n",
         },
         // A byte of a word, and its sign.
@@ -126,6 +136,7 @@ fn bundles_are_answered_by_the_last_memory_of_their_serial_run(
             kernels: "e: li x5, 0xab\nsb x5, 1(x0)\nlb x6, 1(x0)\nsw x6, 4(x0)\necall\n",
             image: "00000000: 11223344\n",
             status: 0,
+            log: "task t ended 0\nrun t 0 code 0 n 5 loads 2 misses 1 stores 2 core 0 from 0 to 1\n",
             text: "00000000: 1122ab44 ffffffab 00000000 00000000 00000000 00000000 00000000 00000000\n",
         },
         // An address that wraps.
@@ -134,6 +145,7 @@ fn bundles_are_answered_by_the_last_memory_of_their_serial_run(
             kernels: "e: li x5, -4\nlw x6, 8(x5)\nsw x6, 0(x0)\necall\n",
             image: "00000001: 00000077\n",
             status: 0,
+            log: "task t ended 0\nrun t 0 code 0 n 4 loads 1 misses 1 stores 1 core 0 from 0 to 1\n",
             text: "00000000: 00000077 00000077 00000000 00000000 00000000 00000000 00000000 00000000\n",
         },
         // The last word of the largest memory.
@@ -142,6 +154,7 @@ fn bundles_are_answered_by_the_last_memory_of_their_serial_run(
             kernels: "e: li x5, 262140\nli x6, 1\nsw x6, 0(x5)\necall\n",
             image: "",
             status: 0,
+            log: "task t ended 0\nrun t 0 code 0 n 5 loads 0 misses 0 stores 1 core 0 from 0 to 1\n",
             text: "0000fff8: 00000000 00000000 00000000 00000000 00000000 00000000 00000000 00000001\n",
         },
         // Two caches that replace lines, and one that doesn't.
@@ -150,6 +163,7 @@ fn bundles_are_answered_by_the_last_memory_of_their_serial_run(
             kernels: "e: lw x5, 0(x0)\nlw x5, 32(x0)\nlw x5, 0(x0)\necall\n",
             image: "",
             status: 0,
+            log: "task t ended 0\nrun t 0 code 0 n 4 loads 3 misses 2 stores 0 core 0 from 0 to 1\n",
             text: "",
         },
     ];
@@ -170,12 +184,13 @@ const ALL_OF_IT: &str = "memory 8\ncache 1 1\ntask t regular entry e budget 9\nw
 #[test]
 fn a_failed_task_is_told_by_status_1(rt: HostRuntime) -> Result<(), Fail> {
     let alloc = rt.alloc();
-    let cases: [(&str, &str, u8, &str); 16] = [
+    let cases: [(&str, &str, u8, &str, &str); 16] = [
         // A skipped task satisfies `any`.
         (
             CONDITIONS,
             "one: li x10, 1\necall\nput: li x5, 9\nsw x5, 0(x0)\necall\n",
             0,
+            "task a ended 1\ntask b skipped\ntask c ended 0\nrun a 0 code 1 n 2 loads 0 misses 0 stores 0 core 0 from 0 to 1\nrun c 0 code 0 n 3 loads 0 misses 0 stores 1 core 0 from 2 to 3\n",
             "00000000: 00000009 00000000 00000000 00000000 00000000 00000000 00000000 00000000\n",
         ),
         // A trap leaves the stores before it, and bars what depends on the task.
@@ -183,6 +198,7 @@ fn a_failed_task_is_told_by_status_1(rt: HostRuntime) -> Result<(), Fail> {
             BARRED,
             "bad: li x5, 1\nsw x5, 0(x0)\nlw x6, 32(x0)\nok: ecall\n",
             1,
+            "task a failed\ntask d failed\ntask e failed\nrun a 0 trap 5 pc 00000008 n 2 loads 0 misses 0 stores 1 core 0 from 0 to 1\n",
             "00000000: 00000001 00000000 00000000 00000000 00000000 00000000 00000000 00000000\n",
         ),
         // A budget that is just enough, and one that isn't.
@@ -190,12 +206,14 @@ fn a_failed_task_is_told_by_status_1(rt: HostRuntime) -> Result<(), Fail> {
             "memory 8\ncache 1 1\ntask t regular entry e budget 3\n",
             "e: nop\nnop\necall\n",
             0,
+            "task t ended 0\nrun t 0 code 0 n 3 loads 0 misses 0 stores 0 core 0 from 0 to 1\n",
             "",
         ),
         (
             "memory 8\ncache 1 1\ntask t regular entry e budget 2\n",
             "e: nop\nnop\necall\n",
             1,
+            "task t failed\nrun t 0 spent n 2 loads 0 misses 0 stores 0 core 0 from 0 to 1\n",
             "",
         ),
         // A load one word past its region.
@@ -203,6 +221,7 @@ fn a_failed_task_is_told_by_status_1(rt: HostRuntime) -> Result<(), Fail> {
             "memory 8\ncache 1 1\ntask t regular entry e budget 9\nread 0 0 2\n",
             "e: lw x5, 4(x0)\nlw x5, 8(x0)\necall\n",
             1,
+            "task t failed\nrun t 0 trap 5 pc 00000004 n 1 loads 1 misses 1 stores 0 core 0 from 0 to 1\n",
             "",
         ),
         // Codes 0 and 1; code 2 is a trap.
@@ -210,30 +229,81 @@ fn a_failed_task_is_told_by_status_1(rt: HostRuntime) -> Result<(), Fail> {
             "memory 8\ncache 1 1\ntask t dup 2 entry e budget 9\n",
             "e: ecall\n",
             0,
+            "task t ended 1\nrun t 0 code 0 n 1 loads 0 misses 0 stores 0 core 0 from 0 to 1\nrun t 1 code 1 n 1 loads 0 misses 0 stores 0 core 0 from 2 to 3\n",
             "",
         ),
         (
             "memory 8\ncache 1 1\ntask t dup 3 entry e budget 9\n",
             "e: ecall\n",
             1,
+            "task t failed\nrun t 0 code 0 n 1 loads 0 misses 0 stores 0 core 0 from 0 to 1\nrun t 1 code 1 n 1 loads 0 misses 0 stores 0 core 0 from 2 to 3\nrun t 2 trap 9 pc 00000000 n 0 loads 0 misses 0 stores 0 core 0 from 4 to 5\n",
             "",
         ),
         // A jump to half a word, and one past the code.
-        (ONE, "e: jal x0, 2\n", 1, ""),
-        (ONE, "e: jal x0, 8\n", 1, ""),
+        (
+            ONE,
+            "e: jal x0, 2\n",
+            1,
+            "task t failed\nrun t 0 trap 3 pc 00000000 n 0 loads 0 misses 0 stores 0 core 0 from 0 to 1\n",
+            "",
+        ),
+        (
+            ONE,
+            "e: jal x0, 8\n",
+            1,
+            "task t failed\nrun t 0 trap 1 pc 00000008 n 1 loads 0 misses 0 stores 0 core 0 from 0 to 1\n",
+            "",
+        ),
         // No instruction, a store before the memory, a load that isn't aligned, no end.
-        (ALL_OF_IT, "e: .word 0xffffffff\n", 1, ""),
-        (ALL_OF_IT, "e: li x5, -4\nsw x5, 0(x5)\n", 1, ""),
-        (ALL_OF_IT, "e: lw x5, 2(x0)\n", 1, ""),
-        (ALL_OF_IT, "e: j e\n", 1, ""),
+        (
+            ALL_OF_IT,
+            "e: .word 0xffffffff\n",
+            1,
+            "task t failed\nrun t 0 trap 2 pc 00000000 n 0 loads 0 misses 0 stores 0 core 0 from 0 to 1\n",
+            "",
+        ),
+        (
+            ALL_OF_IT,
+            "e: li x5, -4\nsw x5, 0(x5)\n",
+            1,
+            "task t failed\nrun t 0 trap 7 pc 00000004 n 1 loads 0 misses 0 stores 0 core 0 from 0 to 1\n",
+            "",
+        ),
+        (
+            ALL_OF_IT,
+            "e: lw x5, 2(x0)\n",
+            1,
+            "task t failed\nrun t 0 trap 4 pc 00000000 n 0 loads 0 misses 0 stores 0 core 0 from 0 to 1\n",
+            "",
+        ),
+        (
+            ALL_OF_IT,
+            "e: j e\n",
+            1,
+            "task t failed\nrun t 0 spent n 9 loads 0 misses 0 stores 0 core 0 from 0 to 1\n",
+            "",
+        ),
         // A half that isn't aligned, a break.
-        (ALL_OF_IT, "e: sh x0, 1(x0)\n", 1, ""),
-        (ALL_OF_IT, "e: ebreak\n", 1, ""),
+        (
+            ALL_OF_IT,
+            "e: sh x0, 1(x0)\n",
+            1,
+            "task t failed\nrun t 0 trap 6 pc 00000000 n 0 loads 0 misses 0 stores 0 core 0 from 0 to 1\n",
+            "",
+        ),
+        (
+            ALL_OF_IT,
+            "e: ebreak\n",
+            1,
+            "task t failed\nrun t 0 trap 8 pc 00000000 n 0 loads 0 misses 0 stores 0 core 0 from 0 to 1\n",
+            "",
+        ),
         // A store into a region that may only be read.
         (
             "memory 8\ncache 1 1\ntask t regular entry e budget 9\nread 0 0 8\n",
             "e: sw x0, 0(x0)\necall\n",
             1,
+            "task t failed\nrun t 0 trap 7 pc 00000000 n 0 loads 0 misses 0 stores 0 core 0 from 0 to 1\n",
             "",
         ),
     ];
@@ -243,7 +313,8 @@ fn a_failed_task_is_told_by_status_1(rt: HostRuntime) -> Result<(), Fail> {
             kernels: case.1,
             image: "",
             status: case.2,
-            text: case.3,
+            log: case.3,
+            text: case.4,
         };
         check_rows(&rt, alloc, &[row])?;
     }
@@ -315,6 +386,7 @@ fn the_first_faulty_line_is_told_with_its_least_kind(rt: HostRuntime) -> Result<
             kernels: case.1,
             image: case.2,
             status: 3,
+            log: "",
             text: "",
         };
         let mut text = Vec::from_slice(alloc, b"fault: line ")?;
@@ -388,8 +460,9 @@ fn a_bundle_that_is_cut_off_within_a_line_is_charged_to_it(rt: HostRuntime) -> R
 #[test]
 fn line_ends_comments_and_long_numerals_are_read(rt: HostRuntime) -> Result<(), Fail> {
     let alloc = rt.alloc();
-    let text =
-        "[image]\n00000000: 00000007 00000023 0000002a 00000000 00000000 00000000 00000000 00000000\n[end]\n";
+    let text = "log 1 cores 1\ntask add ended 0\n\
+        run add 0 code 0 n 5 loads 2 misses 1 stores 1 core 0 from 0 to 1\n\
+        [image]\n00000000: 00000007 00000023 0000002a 00000000 00000000 00000000 00000000 00000000\n[end]\n";
     let mut input = front(alloc, 15, "\r\n")?;
     input.extend_from_slice(b"[end]\r\n")?;
     let answer = answered(&rt, alloc, &["serial"], input)?;
@@ -412,6 +485,7 @@ fn line_ends_comments_and_long_numerals_are_read(rt: HostRuntime) -> Result<(), 
         kernels: "",
         image: "",
         status: 0,
+        log: "",
         text: "",
     };
     check_rows(&rt, alloc, &[long])

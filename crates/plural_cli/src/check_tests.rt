@@ -147,8 +147,10 @@ fn serial_runs_a_map_that_clashes(rt: HostRuntime) -> Result<(), Fail> {
     let map = "memory 8\ncache 1 1\ntask t dup 2 entry e budget 9\nwrite 0 0 1\n";
     let kernels = "e: sw x10, 0(x0)\nli x10, 0\necall\n";
     let answer = answered(&rt, alloc, &["serial"], bundle(alloc, map, kernels)?)?;
-    let text =
-        "[image]\n00000000: 00000001 00000000 00000000 00000000 00000000 00000000 00000000 00000000\n[end]\n";
+    let text = "log 1 cores 1\ntask t ended 0\n\
+        run t 0 code 0 n 3 loads 0 misses 0 stores 1 core 0 from 0 to 1\n\
+        run t 1 code 0 n 3 loads 0 misses 0 stores 1 core 0 from 2 to 3\n\
+        [image]\n00000000: 00000001 00000000 00000000 00000000 00000000 00000000 00000000 00000000\n[end]\n";
     assert_eq!(rt; answer.0, 0);
     assert_eq!(rt; answer.1.as_slice(), text.as_bytes());
     Ok(())

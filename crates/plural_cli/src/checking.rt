@@ -3,6 +3,7 @@
 ghost use Rattle.std.specs.Prelude.{◌≡◌, ◌≢◌, ◌<◌, ◌≤◌, ◌++◌, List, length, take, sum_by, IfOk, OnOk, IfSome, MatchOption};
 ghost use Rattle.plural_map.specs.Value.{TaskValue};
 ghost use Rattle.plural_crew.specs.Clashes.{IsAccepted};
+ghost use Rattle.plural_cli.specs.Output.{IsTold};
 ghost use Rattle.plural_cli.specs.Check.{accepted_text, instance_text, clash_text, IsClashing, IsMapAnswer, IsCheckAnswer};
 
 use crate::answer::Answer;
@@ -87,7 +88,7 @@ pub(crate) fn clash_answer(alloc: Global, map: &Map) -> Result<Option<Answer>, M
 /// The answer of `check` to a bundle's map.
 fn map_answer(alloc: Global, map: &Map) -> Result<Answer, Memory>
     ensures answer { IfOk result (λ a. IsMapAnswer map.now.tasks a.status a.text.items) }
-    ensures statuses { IfOk result (λ a. (a.status ≤ 4) × (a.status ≢ 2)) }
+    ensures told { IfOk result (λ a. IsTold a.status) }
 {
     match clash_answer(alloc, map)? {
         Some(answer) => Ok(answer),
@@ -102,7 +103,7 @@ fn map_answer(alloc: Global, map: &Map) -> Result<Answer, Memory>
 pub(crate) fn check_answer(alloc: Global, bytes: &[u8]) -> Result<Answer, Memory>
     requires { length bytes.now ≤ 16777216 }
     ensures answer { IfOk result (λ a. IsCheckAnswer bytes.now a.status a.text.items) }
-    ensures statuses { IfOk result (λ a. (a.status ≤ 4) × (a.status ≢ 2)) }
+    ensures told { IfOk result (λ a. IsTold a.status) }
 {
     match read(alloc, bytes)? {
         Reading::Faulty(answer) => Ok(answer),

@@ -1,11 +1,11 @@
 //! The words of a command line.
 
-ghost use Rattle.std.specs.Prelude.{◌≡◌, ◌∷◌, map, codes, bytes_eq};
+ghost use Rattle.std.specs.Prelude.{◌≡◌, ◌∷◌, map, codes, bytes_eq, option_map};
 ghost use Rattle.std.specs.String.{string_bytes};
 
 /// A command that reads an input.
 #[derive(Clone, Copy, Debug, PartialEq, Eq)]
-pub enum Command {
+pub enum Request {
     /// `run --cores 1`: runs a bundle on one core.
     Run,
     /// `serial`: runs a bundle as the serial machine does.
@@ -16,9 +16,21 @@ pub enum Command {
     Asm,
     /// `dis`: disassembles words.
     Dis,
+    /// `verify`: judges the output of a run behind its bundle.
+    Verify,
 }
 
-ghost use Rattle.plural_cli.specs.Command.{number_of, joined_cores, paired_cores, one_word, run_on, run_with, command_of};
+/// What the words of a command line ask for.
+#[derive(Clone, Copy, Debug, PartialEq, Eq)]
+pub enum Command {
+    /// An input is read and answered.
+    Read(Request),
+    /// `make SEED`: a bundle is made, and nothing is read.
+    Make { seed: u64 },
+}
+
+ghost use Rattle.plural_cli.specs.declared.command.Command.TheVariants.{Read};
+ghost use Rattle.plural_cli.specs.Command.{number_of, joined_cores, paired_cores, one_word, run_with, two_words, command_of};
 
 use plural_bytes::digits;
 
@@ -60,19 +72,31 @@ fn paired_cores(option: &String, value: &String) -> Option<u64>
     }
 }
 
-fn one_word(word: &String) -> Option<Command>
+fn one_word(word: &String) -> Option<Request>
     ensures { result ≡ one_word (string_bytes word.now) }
 {
     if is_word(word, "serial") {
-        Some(Command::Serial)
+        Some(Request::Serial)
     } else if is_word(word, "check") {
-        Some(Command::Check)
+        Some(Request::Check)
     } else if is_word(word, "asm") {
-        Some(Command::Asm)
+        Some(Request::Asm)
     } else if is_word(word, "dis") {
-        Some(Command::Dis)
+        Some(Request::Dis)
+    } else if is_word(word, "verify") {
+        Some(Request::Verify)
     } else {
         None
+    }
+}
+
+/// The command of one word.
+fn reading(word: &String) -> Option<Command>
+    ensures { result ≡ option_map (λ r. Read r) (one_word (string_bytes word.now)) }
+{
+    match one_word(word) {
+        Some(request) => Some(Command::Read(request)),
+        None => None,
     }
 }
 
@@ -81,8 +105,22 @@ fn run_with(word: &String, cores: Option<u64>) -> Option<Command>
     ensures { result ≡ run_with (string_bytes word.now) cores }
 {
     match cores {
-        Some(1) if is_word(word, "run") => Some(Command::Run),
+        Some(1) if is_word(word, "run") => Some(Command::Read(Request::Run)),
         _ => None,
+    }
+}
+
+/// The command of two words.
+fn two_words(word: &String, argument: &String) -> Option<Command>
+    ensures { result ≡ two_words (string_bytes word.now) (string_bytes argument.now) }
+{
+    if is_word(word, "make") {
+        match number_of(argument.as_bytes()) {
+            Some(seed) => Some(Command::Make { seed }),
+            None => None,
+        }
+    } else {
+        run_with(word, joined_cores(argument))
     }
 }
 
@@ -91,8 +129,8 @@ pub(crate) fn command_of(words: &[String]) -> Option<Command>
     ensures { result ≡ command_of (map string_bytes words.now) }
 {
     match words {
-        [word] => one_word(word),
-        [word, option] => run_with(word, joined_cores(option)),
+        [word] => reading(word),
+        [word, argument] => two_words(word, argument),
         [word, option, value] => run_with(word, paired_cores(option, value)),
         _ => None,
     }

@@ -2,22 +2,44 @@ ghost use Rattle.std.specs.Prelude.{◌≡◌, ◌≢◌, ◌≤◌, List, lengt
 ghost use Rattle.std.specs.Result.{IsErrOf};
 ghost use Rattle.std.specs.Io.KnownBytes.{IsAtEnd};
 ghost use Rattle.plural_bytes.specs.Causes.{Rose};
-ghost use Rattle.plural_cli.specs.Output.{Answers, IsAnswer};
+ghost use Rattle.plural_cli.specs.Output.{limit_of, too_long_of, Answers, IsAnswer, IsTold};
 
 use crate::answer::{Answer, refused};
 use crate::assembling::asm_answer;
 use crate::checking::check_answer;
-use crate::command::Command;
+use crate::command::Request;
 use crate::disassembling::dis_answer;
 use crate::running::{run_answer, serial_answer};
+use crate::verifying::verify_answer;
 use plural_bytes::{Memory, ReadError, Source, read_all};
 use std::alloc::Global;
 
-/// The most bytes that an input may have.
-const LIMIT: u32 = 16_777_216;
-
 /// The line of an input that is too long.
 const TOO_LONG: &[u8; 40] = b"fault: input longer than 16777216 bytes\n";
+
+/// The line of an input of `verify` that is too long.
+const VERIFY_TOO_LONG: &[u8; 40] = b"fault: input longer than 67108864 bytes\n";
+
+/// The most bytes that an input may have.
+fn limit_of(request: Request) -> u32
+    ensures value { result ≡ limit_of request }
+    ensures small { result ≤ 67108864 }
+{
+    match request {
+        Request::Run | Request::Serial | Request::Check | Request::Asm | Request::Dis => 16_777_216,
+        Request::Verify => 67_108_864,
+    }
+}
+
+/// The line for an input that is too long.
+fn too_long_of(request: Request) -> &'static [u8]
+    ensures { result.now ≡ too_long_of request }
+{
+    match request {
+        Request::Run | Request::Serial | Request::Check | Request::Asm | Request::Dis => TOO_LONG,
+        Request::Verify => VERIFY_TOO_LONG,
+    }
+}
 
 /// Why there is no answer.
 #[derive(Clone, Copy, Debug, PartialEq, Eq)]
@@ -28,41 +50,42 @@ pub(crate) enum Missing {
     Memory,
 }
 
-/// What the command answers to an input that is not too long.
-fn answer_to(alloc: Global, command: Command, bytes: &[u8]) -> Result<Answer, Memory>
-    requires { length bytes.now ≤ 16777216 }
-    ensures answer { IfOk result (λ a. Answers command bytes.now a.status a.text.items) }
-    ensures statuses { IfOk result (λ a. (a.status ≤ 4) × (a.status ≢ 2)) }
+/// What the request answers to an input that is not too long.
+fn answer_to(alloc: Global, request: Request, bytes: &[u8]) -> Result<Answer, Memory>
+    requires { length bytes.now ≤ limit_of request }
+    ensures answer { IfOk result (λ a. Answers request bytes.now a.status a.text.items) }
+    ensures told { IfOk result (λ a. IsTold a.status) }
 {
-    match command {
-        Command::Run => run_answer(alloc, bytes),
-        Command::Serial => serial_answer(alloc, bytes),
-        Command::Check => check_answer(alloc, bytes),
-        Command::Asm => asm_answer(alloc, bytes),
-        Command::Dis => dis_answer(alloc, bytes),
+    match request {
+        Request::Run => run_answer(alloc, bytes),
+        Request::Serial => serial_answer(alloc, bytes),
+        Request::Check => check_answer(alloc, bytes),
+        Request::Asm => asm_answer(alloc, bytes),
+        Request::Dis => dis_answer(alloc, bytes),
+        Request::Verify => verify_answer(alloc, bytes),
     }
 }
 
-/// Reads the source, and answers the command on what it holds.
+/// Reads the source, and answers the request on what it holds.
 pub(crate) fn read_answer<S: Source>(
     alloc: Global,
-    command: Command,
+    request: Request,
     source: &mut S,
 ) -> Result<Answer, Missing>
-    ensures answer { IfOk result (λ a. IfSome (S.left source.old) (λ bytes. IsAnswer command bytes a.status a.text.items)) }
-    ensures statuses { IfOk result (λ a. (a.status ≤ 4) × (a.status ≢ 2)) }
+    ensures answer { IfOk result (λ a. IfSome (S.left source.old) (λ bytes. IsAnswer request bytes a.status a.text.items)) }
+    ensures told { IfOk result (λ a. IsTold a.status) }
     ensures end { IfOk result (λ a. a.status ≢ 3 → IsAtEnd (S.left source.new)) }
-    ensures short_end { IfOk result (λ a. IfSome (S.left source.old) (λ bytes. length bytes ≤ 16777216 → IsAtEnd (S.left source.new))) }
+    ensures short_end { IfOk result (λ a. IfSome (S.left source.old) (λ bytes. length bytes ≤ limit_of request → IsAtEnd (S.left source.new))) }
     ensures fault { IsErrOf result Missing.Input → Rose (S.faults source.old) (S.faults source.new) }
 {
-    match read_all(alloc, source, LIMIT) {
+    match read_all(alloc, source, limit_of(request)) {
         Err(ReadError::Fault) => Err(Missing::Input),
         Err(ReadError::Memory) => Err(Missing::Memory),
-        Err(ReadError::TooLong) => match refused(alloc, TOO_LONG) {
+        Err(ReadError::TooLong) => match refused(alloc, too_long_of(request)) {
             Ok(answer) => Ok(answer),
             Err(_) => Err(Missing::Memory),
         },
-        Ok(bytes) => match answer_to(alloc, command, &bytes) {
+        Ok(bytes) => match answer_to(alloc, request, &bytes) {
             Ok(answer) => Ok(answer),
             Err(_) => Err(Missing::Memory),
         },

@@ -15,11 +15,13 @@ mod command;
 mod disassembling;
 mod gate;
 mod input;
+mod making;
 mod reading;
 mod running;
 mod top;
+mod verifying;
 
-pub use command::Command;
+pub use command::{Command, Request};
 pub use gate::{Gate, OpenGate};
 pub use top::plural;
 
@@ -33,3 +35,5 @@ mod command_tests;
 mod filter_tests;
 #[cfg(test)]
 mod tests;
+#[cfg(test)]
+mod verify_tests;

@@ -44,7 +44,7 @@ fn fault_word(alloc: Global, fault: Fault) -> Result<Vec<u8>, Memory>
 }
 
 /// The answer that tells a fault of the line of this number.
-fn bundle_fault(alloc: Global, line: u32, fault: Fault) -> Result<Answer, Memory>
+pub(crate) fn bundle_fault(alloc: Global, line: u32, fault: Fault) -> Result<Answer, Memory>
     ensures { IfOk result (λ a. (a.status ≡ 3) × (a.text.items ≡ fault_text line (bundle_fault_text fault))) }
 {
     let word = fault_word(alloc, fault)?;
@@ -52,7 +52,7 @@ fn bundle_fault(alloc: Global, line: u32, fault: Fault) -> Result<Answer, Memory
 }
 
 /// What content lines are of which `end` is the number of the line behind the last.
-fn read_lines(alloc: Global, lines: &[Line<'_>], end: u32) -> Result<Reading, Memory>
+pub(crate) fn read_lines(alloc: Global, lines: &[Line<'_>], end: u32) -> Result<Reading, Memory>
     requires { length lines.now ≤ 67108864 }
     ensures { IfOk result (λ r. IsReading (text_lines lines.now) end r) }
 {

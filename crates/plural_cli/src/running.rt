@@ -1,9 +1,9 @@
-//! The commands `serial` and `run`: a bundle in, the last memory of its serial run out.
+//! The commands `serial` and `run`: a bundle in, the log and the last memory of its serial run out.
 
-ghost use Rattle.std.specs.Prelude.{◌≡◌, ◌≢◌, ◌≤◌, ◌%◌, ◌++◌, List, length, map, Some, IfOk};
+ghost use Rattle.std.specs.Prelude.{◌≡◌, ◌≢◌, ◌≤◌, ◌%◌, List, length, map, Some, IfOk};
 ghost use Rattle.std.specs.List.{list_any};
 ghost use Rattle.plural_map.specs.Decisions.{is_failed};
-ghost use Rattle.plural_cli.specs.Texts.{image_part};
+ghost use Rattle.plural_cli.specs.Output.{IsTold};
 ghost use Rattle.plural_cli.specs.Run.{status_of, IsRan, IsRunOf, IsSerialAnswer, IsRunAnswer};
 
 use crate::answer::Answer;
@@ -11,9 +11,10 @@ use crate::checking::clash_answer;
 use crate::reading::{Reading, read};
 use plural_bundle::Bundle;
 use plural_bytes::Memory;
-use plural_image::print_image;
 use plural_map::Outcome;
+use plural_output::print_output;
 use plural_serial::serial;
+use plural_trace::serial_log;
 use std::alloc::Global;
 
 fn is_failed(outcome: Outcome) -> bool
@@ -35,20 +36,7 @@ fn status_of(outcomes: &[Outcome]) -> u8
     if any_failed(outcomes) { 1 } else { 0 }
 }
 
-/// The text of an image: its header, its lines, the end.
-fn image_text(alloc: Global, image: &[u32]) -> Result<Vec<u8>, Memory>
-    requires whole { length image.now % 8 ≡ 0 }
-    requires small { length image.now ≤ 1048576 }
-    ensures { IfOk result (λ v. v.items ≡ image_part image.now) }
-{
-    let mut text = Vec::new(alloc);
-    text.extend_from_slice(b"[image]\n")?;
-    text.extend_from_slice(&print_image(alloc, image)?)?;
-    text.extend_from_slice(b"[end]\n")?;
-    Ok(text)
-}
-
-/// Runs the program of a bundle, and answers its status and the last memory.
+/// Runs the program of a bundle, and answers its status, its log and the last memory.
 fn ran(alloc: Global, bundle: &Bundle) -> Result<Answer, Memory>
     requires words { length bundle.now.image ≡ bundle.now.program.map.words }
     requires whole { length bundle.now.image % 8 ≡ 0 }
@@ -56,10 +44,11 @@ fn ran(alloc: Global, bundle: &Bundle) -> Result<Answer, Memory>
     ensures answer { IfOk result (λ a. IsRan bundle.now a.status a.text.items) }
     ensures statuses { IfOk result (λ a. a.status ≤ 1) }
 {
-    let answer = serial(alloc, &bundle.program, &bundle.image)?;
+    let run = serial(alloc, &bundle.program, &bundle.image)?;
+    let log = serial_log(alloc, &run)?;
     Ok(Answer {
-        status: status_of(answer.outcomes()),
-        text: image_text(alloc, answer.image())?,
+        status: status_of(run.outcomes()),
+        text: print_output(alloc, bundle.program.map(), &log, run.image())?,
     })
 }
 
@@ -69,7 +58,7 @@ fn checked_and_ran(alloc: Global, bundle: &Bundle) -> Result<Answer, Memory>
     requires whole { length bundle.now.image % 8 ≡ 0 }
     requires small { length bundle.now.image ≤ 1048576 }
     ensures answer { IfOk result (λ a. IsRunOf bundle.now a.status a.text.items) }
-    ensures statuses { IfOk result (λ a. (a.status ≤ 4) × (a.status ≢ 2)) }
+    ensures told { IfOk result (λ a. IsTold a.status) }
 {
     match clash_answer(alloc, bundle.program.map())? {
         Some(answer) => Ok(answer),
@@ -81,7 +70,7 @@ fn checked_and_ran(alloc: Global, bundle: &Bundle) -> Result<Answer, Memory>
 pub(crate) fn serial_answer(alloc: Global, bytes: &[u8]) -> Result<Answer, Memory>
     requires { length bytes.now ≤ 16777216 }
     ensures answer { IfOk result (λ a. IsSerialAnswer bytes.now a.status a.text.items) }
-    ensures statuses { IfOk result (λ a. (a.status ≤ 4) × (a.status ≢ 2)) }
+    ensures told { IfOk result (λ a. IsTold a.status) }
 {
     match read(alloc, bytes)? {
         Reading::Faulty(answer) => Ok(answer),
@@ -93,7 +82,7 @@ pub(crate) fn serial_answer(alloc: Global, bytes: &[u8]) -> Result<Answer, Memor
 pub(crate) fn run_answer(alloc: Global, bytes: &[u8]) -> Result<Answer, Memory>
     requires { length bytes.now ≤ 16777216 }
     ensures answer { IfOk result (λ a. IsRunAnswer bytes.now a.status a.text.items) }
-    ensures statuses { IfOk result (λ a. (a.status ≤ 4) × (a.status ≢ 2)) }
+    ensures told { IfOk result (λ a. IsTold a.status) }
 {
     match read(alloc, bytes)? {
         Reading::Faulty(answer) => Ok(answer),

@@ -7,11 +7,17 @@ use std::thread::Threads;
 const ADD: &str =
     "start: .word 0x00002283\n.word 0x00402303\n.word 0x006283b3\n.word 0x00702423\n.word 0x00000073\n";
 
-const SUM: &str =
-    "[image]\n00000000: 00000007 00000023 0000002a 00000000 00000000 00000000 00000000 00000000\n[end]\n";
+const SUM: &str = "log 1 cores 1\ntask add ended 0\n\
+    run add 0 code 0 n 5 loads 2 misses 1 stores 1 core 0 from 0 to 1\n\
+    [image]\n00000000: 00000007 00000023 0000002a 00000000 00000000 00000000 00000000 00000000\n[end]\n";
 
-const UNCHANGED: &str =
-    "[image]\n00000000: 00000007 00000023 00000000 00000000 00000000 00000000 00000000 00000000\n[end]\n";
+const SPENT: &str = "log 1 cores 1\ntask add failed\n\
+    run add 0 spent n 4 loads 2 misses 1 stores 1 core 0 from 0 to 1\n\
+    [image]\n00000000: 00000007 00000023 0000002a 00000000 00000000 00000000 00000000 00000000\n[end]\n";
+
+const UNCHANGED: &str = "log 1 cores 1\ntask add failed\n\
+    run add 0 trap 5 pc 00000000 n 0 loads 0 misses 0 stores 0 core 0 from 0 to 1\n\
+    [image]\n00000000: 00000007 00000023 00000000 00000000 00000000 00000000 00000000 00000000\n[end]\n";
 
 const USAGE: &str =
     "usage: plural run --cores N [--order SEED] | serial | check | asm | dis | make SEED [--cores N] | verify\n";
@@ -59,7 +65,7 @@ fn a_run_answers_its_status_and_its_last_memory(rt: HostRuntime) -> Result<(), F
     let rows = [
         ("8", "100", ADD, 0, SUM),
         ("8", "100", "start: .word 0x02002283\n", 1, UNCHANGED),
-        ("8", "4", ADD, 1, SUM),
+        ("8", "4", ADD, 1, SPENT),
         ("12", "100", ADD, 3, "fault: line 3: number\n"),
     ];
     for (memory, budget, kernel, status, text) in rows {
@@ -96,6 +102,12 @@ fn other_words_leave_the_source_unread(rt: HostRuntime) -> Result<(), Fail> {
         &["run", "1"],
         &["serial", "--cores", "1"],
         &["--cores", "1", "run"],
+        &["make"],
+        &["make", "x"],
+        &["make", "18446744073709551616"],
+        &["make", "000000000000000000001"],
+        &["make", "1", "--cores", "1"],
+        &["verify", "1"],
         &["--"],
         &["-h"],
         &["--help"],
