@@ -1,0 +1,5 @@
+pub mod Tokens
+pub mod Steps
+pub mod Shapes
+pub mod Found
+pub mod Again

@@ -1,0 +1,143 @@
+-- The tokens of printed lines, and what they spell.
+use Rattle.std.proofs.Common.{◌≡◌, ℕ, ◌<◌, ◌≤◌, Bool, true, false, ltb, Some, List, [], ◌∷◌, ◌++◌, refl, ap, sym, ◌∙◌, arith, append_assoc}
+use Rattle.std.specs.Prelude.{codes, decimal}
+use Rattle.std.specs.List.{list_all}
+use Rattle.std.proofs.lemmas.Bool.{and_from, ne_eqb, ltb-false, ltb-true}
+use Rattle.plural_bytes.specs.Names.{is_name, name_of}
+use Rattle.plural_regions.specs.declared.region.Mode.{Mode}
+use Rattle.plural_regions.specs.declared.region.Mode.TheVariants as mode
+use Rattle.plural_map.specs.declared.line.MapLine.TheVariants as line
+use Rattle.plural_map.specs.declared.line.TaskKind.{TaskKind}
+use Rattle.plural_map.specs.declared.line.TaskKind.TheVariants as kind
+use Rattle.plural_map.specs.declared.outcome.When.{When}
+use Rattle.plural_map.specs.declared.outcome.When.TheVariants as when
+use Rattle.plural_map.specs.Value.{TaskValue}
+use Rattle.plural_map.specs.Limits.{is_set_count}
+use Rattle.plural_map.specs.Shape.{shape, when_of}
+use Rattle.plural_map.specs.Parts.{quota_of, is_dup}
+use Rattle.plural_map.specs.Print.{line_text, kind_text, task_line, when_text, mode_text}
+use Rattle.plural_reread.proofs.Tokens.{is_token, joined, decimal_token, counted_back, name_token}
+
+-- Each is a token.
+abbrev AreTokens : List (List ℕ) → Type 0
+AreTokens [] = Unit {0}
+AreTokens (t ∷ ts) = (is_token t ≡ true) × AreTokens ts
+
+all_tokens : (ts : List (List ℕ)) → AreTokens ts → list_all is_token ts ≡ true
+all_tokens [] h = refl
+all_tokens (t ∷ ts) h = and_from _ _ h.0 (all_tokens ts h.1)
+
+name_back : (name : List ℕ) → is_name name ≡ true → name_of name ≡ Some name
+name_back name h = rw h refl
+
+-- A line of tokens is they with single spaces, and a line end.
+pub line_joined : (t : List ℕ) (ts : List (List ℕ)) → line_text (t ∷ ts) ≡ joined (t ∷ ts) ++ 10 ∷ []
+line_joined t [] = refl
+line_joined t (u ∷ ts) = ap (λ x. t ++ 32 ∷ x) (line_joined u ts) ∙ sym (append_assoc t (32 ∷ joined (u ∷ ts)) (10 ∷ []))
+
+-- ---- memory and cache
+
+pub memory_all : (words : ℕ) → words < 4294967296 → list_all is_token (codes "memory" ∷ decimal words ∷ []) ≡ true
+memory_all words h = all_tokens (codes "memory" ∷ decimal words ∷ []) (refl, (decimal_token words h, tt))
+
+pub memory_shape : (words : ℕ) → words < 4294967296 → shape (codes "memory" ∷ decimal words ∷ []) ≡ Some (line.Memory (Some words))
+memory_shape words h = rw (counted_back words h) refl
+
+pub cache_all : (sets ways : ℕ) → sets < 4294967296 → ways < 4294967296 → list_all is_token (codes "cache" ∷ decimal sets ∷ decimal ways ∷ []) ≡ true
+cache_all sets ways h k = all_tokens (codes "cache" ∷ decimal sets ∷ decimal ways ∷ []) (refl, (decimal_token sets h, (decimal_token ways k, tt)))
+
+pub cache_shape : (sets ways : ℕ) → sets < 4294967296 → ways < 4294967296 → shape (codes "cache" ∷ decimal sets ∷ decimal ways ∷ []) ≡ Some (line.Cache (Some sets) (Some ways))
+cache_shape sets ways h k = rw (counted_back sets h, counted_back ways k) refl
+
+-- A number of sets is small.
+pub sets_small : (sets : ℕ) → is_set_count sets ≡ true → sets < 4294967296
+sets_small sets h = by (ltb sets 4294967296) refl
+  where
+    by : (b : Bool) → ltb sets 4294967296 ≡ b → sets < 4294967296
+    by true e = ltb-true sets 4294967296 e
+    by false e =
+        let high : 4294967296 ≤ sets = ltb-false sets 4294967296 e in
+        let f : false ≡ true =
+        rw (ne_eqb 1 sets (λ x. omega arith), ne_eqb 2 sets (λ x. omega arith), ne_eqb 4 sets (λ x. omega arith), ne_eqb 8 sets (λ x. omega arith), ne_eqb 16 sets (λ x. omega arith), ne_eqb 32 sets (λ x. omega arith), ne_eqb 64 sets (λ x. omega arith)) at h in
+        absurd cc
+
+-- ---- a task's own line
+
+-- The kind of a task.
+pub kind_of : Bool → ℕ → TaskKind
+kind_of false quota = kind.Regular
+kind_of true quota = kind.Dup (Some quota)
+
+pub dup_back : (dup : Bool) (quota : ℕ) → is_dup (kind_of dup quota) ≡ dup
+unfolding kind_of
+dup_back false quota = refl
+dup_back true quota = refl
+
+-- A kind gives the task's number of instances, which is one for a regular task.
+pub quota_back : (dup : Bool) (quota : ℕ) → (dup ≡ false → quota ≡ 1) → quota_of (kind_of dup quota) ≡ Some quota
+unfolding kind_of
+quota_back false quota h = ap (λ n. Some n) (sym (h refl))
+quota_back true quota h = refl
+
+-- The tokens behind `task`.
+pub task_tokens : Bool → ℕ → (name entry : List ℕ) → ℕ → List (List ℕ)
+task_tokens false quota name entry budget = name ∷ codes "regular" ∷ codes "entry" ∷ entry ∷ codes "budget" ∷ decimal budget ∷ []
+task_tokens true quota name entry budget = name ∷ codes "dup" ∷ decimal quota ∷ codes "entry" ∷ entry ∷ codes "budget" ∷ decimal budget ∷ []
+
+pub task_joined : (t : TaskValue) → task_line t ≡ joined (codes "task" ∷ task_tokens t.dup t.quota t.name t.entry t.budget) ++ 10 ∷ []
+unfolding task_tokens
+task_joined t = by t.dup
+  where
+    by : (dup : Bool) → codes "task " ++ (t.name ++ (kind_text dup t.quota ++ (codes "entry " ++ (t.entry ++ (codes " budget " ++ (decimal t.budget ++ codes "\n"))))))
+        ≡ joined (codes "task" ∷ task_tokens dup t.quota t.name t.entry t.budget) ++ 10 ∷ []
+    by false = simp append_assoc refl
+    by true = simp append_assoc refl
+
+pub task_all : (dup : Bool) (quota : ℕ) (name entry : List ℕ) (budget : ℕ) → quota < 4294967296 → is_name name ≡ true → is_name entry ≡ true → budget < 4294967296
+    → list_all is_token (codes "task" ∷ task_tokens dup quota name entry budget) ≡ true
+unfolding task_tokens
+task_all false quota name entry budget q n e b =
+    all_tokens (codes "task" ∷ name ∷ codes "regular" ∷ codes "entry" ∷ entry ∷ codes "budget" ∷ decimal budget ∷ [])
+    (refl, (name_token name n, (refl, (refl, (name_token entry e, (refl, (decimal_token budget b, tt)))))))
+task_all true quota name entry budget q n e b =
+    all_tokens (codes "task" ∷ name ∷ codes "dup" ∷ decimal quota ∷ codes "entry" ∷ entry ∷ codes "budget" ∷ decimal budget ∷ [])
+    (refl, (name_token name n, (refl, (decimal_token quota q, (refl, (name_token entry e, (refl, (decimal_token budget b, tt))))))))
+
+pub task_shape : (dup : Bool) (quota : ℕ) (name entry : List ℕ) (budget : ℕ) → quota < 4294967296 → is_name name ≡ true → is_name entry ≡ true → budget < 4294967296
+    → shape (codes "task" ∷ task_tokens dup quota name entry budget) ≡ Some (line.Task name (kind_of dup quota) entry (Some budget))
+unfolding task_tokens kind_of
+task_shape false quota name entry budget q n e b = rw (name_back name n, name_back entry e, counted_back budget b) refl
+task_shape true quota name entry budget q n e b = rw (counted_back quota q, name_back name n, name_back entry e, counted_back budget b) refl
+
+-- ---- dependencies
+
+when_token : (w : When) → is_token (when_text w) ≡ true
+when_token when.Any = refl
+when_token when.Code0 = refl
+when_token when.Code1 = refl
+
+when_back : (w : When) → when_of (when_text w) ≡ Some w
+when_back when.Any = refl
+when_back when.Code0 = refl
+when_back when.Code1 = refl
+
+pub after_all : (name : List ℕ) (w : When) → is_name name ≡ true → list_all is_token (codes "after" ∷ name ∷ when_text w ∷ []) ≡ true
+after_all name w h = all_tokens (codes "after" ∷ name ∷ when_text w ∷ []) (refl, (name_token name h, (when_token w, tt)))
+
+pub after_shape : (name : List ℕ) (w : When) → is_name name ≡ true → shape (codes "after" ∷ name ∷ when_text w ∷ []) ≡ Some (line.After name w)
+after_shape name w h = rw (name_back name h, when_back w) refl
+
+-- ---- regions
+
+mode_token : (x : Mode) → is_token (mode_text x) ≡ true
+mode_token mode.Read = refl
+mode_token mode.Write = refl
+
+pub region_all : (x : Mode) (base stride count : ℕ) → base < 4294967296 → stride < 4294967296 → count < 4294967296
+    → list_all is_token (mode_text x ∷ decimal base ∷ decimal stride ∷ decimal count ∷ []) ≡ true
+region_all x base stride count b s c = all_tokens (mode_text x ∷ decimal base ∷ decimal stride ∷ decimal count ∷ []) (mode_token x, (decimal_token base b, (decimal_token stride s, (decimal_token count c, tt))))
+
+pub region_shape : (x : Mode) (base stride count : ℕ) → base < 4294967296 → stride < 4294967296 → count < 4294967296
+    → shape (mode_text x ∷ decimal base ∷ decimal stride ∷ decimal count ∷ []) ≡ Some (line.Region x (Some base) (Some stride) (Some count))
+region_shape mode.Read base stride count b s c = rw (counted_back base b, counted_back stride s, counted_back count c) refl
+region_shape mode.Write base stride count b s c = rw (counted_back base b, counted_back stride s, counted_back count c) refl

@@ -1,0 +1,85 @@
+-- Texts whose lines are read one after the other without a fault.
+use Rattle.std.proofs.Common.{◌≡◌, ℕ, ◌+◌, ◌≤◌, true, false, Some, List, [], ◌∷◌, ◌++◌, length, refl, ap, sym, subst, ◌∙◌, arith, append_assoc}
+use Rattle.std.specs.List.{list_all}
+use Rattle.std.specs.Option.{option_map_or}
+use Rattle.std.proofs.lemmas.Bool.{le-ltb}
+use Rattle.std.proofs.lemmas.List.{append-nil, length-append}
+use Rattle.std.proofs.lemmas.List.Sums.{fold_push}
+use Rattle.plural_bytes.specs.Lines.{TextLine, pieces, content_from}
+use Rattle.plural_bytes.specs.Faults.{IsFaultless}
+use Rattle.plural_bytes.proofs.Faulted.{faultless_nil, faultless_push}
+use Rattle.plural_map.specs.declared.line.MapLine.{MapLine}
+use Rattle.plural_map.specs.declared.line.MapLine.TheVariants as line
+use Rattle.plural_map.specs.Shape.{shape, shape_of}
+use Rattle.plural_map.specs.Parts.{Parts, with_line, with_text, nothing, parts_of}
+use Rattle.plural_map.specs.Rules.{Breaks, IsInsideAt, is_out_of_place, is_out_of_range, is_misnamed, is_too_many, closed}
+use Rattle.plural_map.proofs.Verdicts.{no_kind}
+use Rattle.plural_reread.proofs.Tokens.{is_token, joined, tokens_joined, line_next}
+
+-- Lines without a fault that spell these parts.
+pub record Reads (labels : List (List ℕ)) (lines : List TextLine) (p : Parts) : Type 0 where
+  pub faultless : IsFaultless (Breaks labels) lines
+  pub value : p ≡ parts_of lines
+
+pub reads_nothing : (labels : List (List ℕ)) → Reads labels [] nothing
+reads_nothing labels = record { faultless = faultless_nil (Breaks labels); value = refl }
+
+-- A line of this shape behind n lines that spell the parts has no fault.
+pub record IsFine (labels : List (List ℕ)) (n : ℕ) (p : Parts) (s : MapLine) : Type 0 where
+  pub place : is_out_of_place n p s ≡ false
+  pub range : is_out_of_range s ≡ false
+  pub names : is_misnamed labels p s ≡ false
+  pub counts : is_too_many p s ≡ false
+  pub inside : IsInsideAt p s
+
+pub reads_push : (labels : List (List ℕ)) (lines : List TextLine) (l : TextLine) (p : Parts) (s : MapLine) → Reads labels lines p → shape_of l.1 ≡ Some s → IsFine labels (length lines) p s
+    → Reads labels (lines ++ l ∷ []) (with_line p s)
+reads_push labels lines l p s r e f = record {
+  faultless = faultless_push (Breaks labels) lines l r.faultless (λ k b. no_kind labels (length lines) p s f.place f.range f.names f.counts f.inside k (rw (e, ← r.value) at b));
+  value = ap (λ x. with_line x s) r.value ∙ sym (fold_push with_text nothing lines l ∙ ap (λ o. option_map_or (with_line (parts_of lines)) o (parts_of lines)) e);
+}
+
+-- The line that closes two lines or more has no fault.
+pub closed_reads : (labels : List (List ℕ)) (lines : List TextLine) (end : ℕ) (p : Parts) → Reads labels lines p → 2 ≤ length lines → IsFaultless (Breaks labels) (closed lines end)
+closed_reads labels lines end p r h =
+    faultless_push (Breaks labels) lines (end, []) r.faultless (λ k b. no_kind labels (length lines) (parts_of lines) line.End (le-ltb (length lines) 2 h) refl refl refl tt k b)
+
+-- ---- texts behind the first two lines
+
+-- Behind these lines, the text gives more lines, and all together spell the parts.
+pub record Passed (labels : List (List ℕ)) (before : List TextLine) (number : ℕ) (text rest : List ℕ) (q : Parts) : Type 0 where
+  pub lines : List TextLine
+  pub next : ℕ
+  pub cut : content_from number (pieces (text ++ rest)) ≡ lines ++ content_from next (pieces rest)
+  pub reads : Reads labels (before ++ lines) q
+
+-- The text leads from parts to parts, whatever two or more lines stand before it and whatever follows.
+abbrev pub Leads : List (List ℕ) → Parts → List ℕ → Parts → Type 0
+Leads labels p text q = (number : ℕ) (before : List TextLine) (rest : List ℕ) → 2 ≤ length before → Reads labels before p → Passed labels before number text rest q
+
+pub no_step : (labels : List (List ℕ)) (p : Parts) → Leads labels p [] p
+no_step labels p number before rest low r = record { lines = []; next = number; cut = refl; reads = rw (append-nil before) r }
+
+pub two_steps : (labels : List (List ℕ)) (p q r : Parts) (s t : List ℕ) → Leads labels p s q → Leads labels q t r → Leads labels p (s ++ t) r
+two_steps labels p q r s t f g number before rest low h =
+    let a = f number before (t ++ rest) low h in
+    let b = g a.next (before ++ a.lines) rest (omega (arith, low, length-append before a.lines)) a.reads in
+    record {
+      lines = a.lines ++ b.lines;
+      next = b.next;
+      cut = ap (λ x. content_from number (pieces x)) (append_assoc s t rest) ∙ a.cut ∙ ap (λ x. a.lines ++ x) b.cut ∙ sym (append_assoc a.lines b.lines (content_from b.next (pieces rest)));
+      reads = subst (λ (ls : List TextLine). Reads labels ls r) (append_assoc before a.lines b.lines) b.reads;
+    }
+
+-- One line of tokens.
+pub line_step : (labels : List (List ℕ)) (p : Parts) (s : MapLine) (text t : List ℕ) (ts : List (List ℕ)) → text ≡ joined (t ∷ ts) ++ 10 ∷ [] → list_all is_token (t ∷ ts) ≡ true → shape (t ∷ ts) ≡ Some s
+    → ((n : ℕ) → 2 ≤ n → IsFine labels n p s) → Leads labels p text (with_line p s)
+line_step labels p s text t ts e all spells fine number before rest low r =
+    let whole : text ++ rest ≡ joined (t ∷ ts) ++ 10 ∷ rest = ap (λ x. x ++ rest) e ∙ append_assoc (joined (t ∷ ts)) (10 ∷ []) rest in
+    let shaped : shape_of (joined (t ∷ ts)) ≡ Some s = ap shape (tokens_joined t ts all) ∙ spells in
+    record {
+      lines = (number, joined (t ∷ ts)) ∷ [];
+      next = number + 1;
+      cut = ap (λ x. content_from number (pieces x)) whole ∙ line_next number t ts rest all;
+      reads = reads_push labels before (number, joined (t ∷ ts)) p s r shaped (fine (length before) low);
+    }

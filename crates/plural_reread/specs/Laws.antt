@@ -1,0 +1,41 @@
+-- Reading what was printed.
+use Rattle.std.specs.Prelude.{◌≡◌, ℕ, ◌<◌, ◌≤◌, false, List, length, slice_index_or, IsTrue}
+use Rattle.std.specs.List.{All}
+use Rattle.plural_bytes.specs.Lines.{content_lines}
+use Rattle.plural_bytes.specs.Faults.{IsFaultless}
+use Rattle.plural_bytes.specs.Names.{is_name}
+use Rattle.plural_regions.specs.declared.region.Region.{Region}
+use Rattle.plural_map.specs.declared.outcome.Dep.{Dep}
+use Rattle.plural_map.specs.Value.{TaskValue, MapValue}
+use Rattle.plural_map.specs.Limits.{IsMap}
+use Rattle.plural_map.specs.Print.{map_text}
+use Rattle.plural_map.specs.Parts.{map_of}
+use Rattle.plural_map.specs.Rules.{Breaks, closed, has}
+
+-- The numbers of a region that a line may spell: base and stride of at most 65,535, a count of at most 65,536.
+pub record IsSpelledRegion (r : Region) : Type 0 where
+  pub base : r.base ≤ 65535
+  pub stride : r.stride ≤ 65535
+  pub count : r.count ≤ 65536
+
+-- The task of this number that lines may spell: its name and its entry are names, all its dependencies have to be
+-- satisfied, each is on a task of a lesser number, and lines may spell its regions.
+pub record IsSpelledTask (number : ℕ) (t : TaskValue) : Type 0 where
+  pub name : IsTrue (is_name t.name)
+  pub entry : IsTrue (is_name t.entry)
+  pub every : t.some ≡ false
+  pub earlier : All (λ (d : Dep). d.task < number) t.deps
+  pub regions : All IsSpelledRegion t.regions
+
+-- A map that version 1 of the format spells: at most 65,536 words, at most 64 tasks, and each task is one that lines may
+-- spell.
+pub record IsVersion1 (m : MapValue) : Type 0 where
+  pub words : m.words ≤ 65536
+  pub few_tasks : length m.tasks ≤ 64
+  pub each : (number : ℕ) (d : TaskValue) → number < length m.tasks → IsSpelledTask number (slice_index_or m.tasks number d)
+
+-- The content lines of a printed map of version 1 have no fault, for whatever labels that have each task's entry and
+-- whichever line closes them, and spell the map.
+abbrev pub MapAgain : Type 0
+MapAgain = (m : MapValue) (labels : List (List ℕ)) (end : ℕ) → IsMap m → IsVersion1 m → All (λ (t : TaskValue). IsTrue (has labels t.entry)) m.tasks
+    → IsFaultless (Breaks labels) (closed (content_lines (map_text m)) end) × (map_of (content_lines (map_text m)) ≡ m)
