@@ -7,6 +7,7 @@ use Rattle.std.proofs.lemmas.Bool.{le-leb, lt-leb, le-ltb}
 use Rattle.std.proofs.lemmas.List.{append-nil, length-append, get_or_at, get_or_append_left}
 use Rattle.std.proofs.lemmas.List.Folds.{list_any_at}
 use Rattle.plural_bytes.specs.Lines.{TextLine, pieces, content_from, content_lines}
+use Rattle.plural_bytes.specs.Faults.{IsFaultless}
 use Rattle.plural_bytes.specs.Names.{is_name}
 use Rattle.plural_regions.specs.declared.region.Region.{Region}
 use Rattle.plural_regions.specs.Rights.{is_in}
@@ -18,9 +19,9 @@ use Rattle.plural_map.specs.Value.{TaskValue, MapValue}
 use Rattle.plural_map.specs.Limits.{IsTask, IsMap}
 use Rattle.plural_map.specs.Order.{order_of}
 use Rattle.plural_map.specs.Shape.{shape, shape_of}
-use Rattle.plural_map.specs.Parts.{Parts, number_of, nothing, with_line, whole, quota_of}
+use Rattle.plural_map.specs.Parts.{Parts, number_of, nothing, with_line, whole, map_of, quota_of}
 use Rattle.plural_map.specs.Print.{line_text, name_at, when_text, mode_text, task_line, dep_text, join_text, region_text, task_text, map_text}
-use Rattle.plural_map.specs.Rules.{has, has_task, has_dep, task_count, instance_count}
+use Rattle.plural_map.specs.Rules.{Breaks, closed, has, has_task, has_dep, task_count, instance_count}
 use Rattle.plural_map.proofs.Kept.{length_all, quotas_all}
 use Rattle.plural_reread.specs.Laws.{IsSpelledRegion, IsSpelledTask, IsVersion1, MapAgain}
 use Rattle.plural_reread.proofs.Tokens.{is_token, joined, tokens_joined, line_next}
@@ -234,35 +235,49 @@ whole_is m earlier current limits e =
     let order = sym (limits.ordered ∙ ap order_of e) in
     λ i. record { words = m.words; sets = m.sets; ways = m.ways; tasks = sym e i; order = order i }
 
-pub map_again : MapAgain
-map_again m labels end limits small entries =
-    let tasks = flat_map (task_text m.tasks) m.tasks in
+-- Lines that spell the parts behind all tasks of the map spell the map.
+ends_again : (m : MapValue) (labels : List (List ℕ)) (end : ℕ) (lines : List TextLine) (earlier : List TaskValue) (current : Option TaskValue) → IsMap m → m.tasks ≡ earlier ++ option_to_list current → 2 ≤ length lines
+    → Reads labels lines (behind m earlier current) → IsFaultless (Breaks labels) (closed lines end) × (map_of lines ≡ m)
+ends_again m labels end lines earlier current limits e low r = (closed_reads labels lines end (behind m earlier current) r low, ap whole (sym r.value) ∙ whole_is m earlier current limits e)
+
+shaped : (t : List ℕ) (ts : List (List ℕ)) → list_all is_token (t ∷ ts) ≡ true → shape_of (joined (t ∷ ts)) ≡ shape (t ∷ ts)
+shaped t ts h = ap shape (tokens_joined t ts h)
+
+-- The first two lines of a map.
+abbrev two_lines : MapValue → List TextLine
+two_lines m = (1, joined (codes "memory" ∷ decimal m.words ∷ [])) ∷ (2, joined (codes "cache" ∷ decimal m.sets ∷ decimal m.ways ∷ [])) ∷ []
+
+two_read : (m : MapValue) (labels : List (List ℕ)) → IsMap m → m.words ≤ 65536 → m.words < 4294967296 → m.ways < 4294967296 → Reads labels (two_lines m) (behind m [] None)
+two_read m labels limits high words ways =
+    let sets = sets_small m.sets limits.sets in
     let memory = joined (codes "memory" ∷ decimal m.words ∷ []) in
     let cache = joined (codes "cache" ∷ decimal m.sets ∷ decimal m.ways ∷ []) in
-    let high = small.words in
-    let ways = limits.ways_high in
-    let words_fit : m.words < 4294967296 = omega arith in
-    let sets_fit = sets_small m.sets limits.sets in
-    let ways_fit : m.ways < 4294967296 = omega arith in
-    let text : map_text m ≡ memory ++ 10 ∷ (cache ++ 10 ∷ (tasks ++ [])) = texts m tasks in
-    let two = (1, memory) ∷ (2, cache) ∷ [] in
-    let start : content_lines (map_text m) ≡ two ++ content_from 3 (pieces (tasks ++ [])) =
-    ap (λ x. content_from 1 (pieces x)) text ∙ line_next 1 (codes "memory") (decimal m.words ∷ []) (cache ++ 10 ∷ (tasks ++ [])) (memory_all m.words words_fit)
-    ∙ ap (λ x. (1, memory) ∷ x) (line_next 2 (codes "cache") (decimal m.sets ∷ decimal m.ways ∷ []) (tasks ++ []) (cache_all m.sets m.ways sets_fit ways_fit)) in
-    let first = reads_push labels [] (1, memory) nothing (line.Memory (Some m.words)) (reads_nothing labels) (shaped (codes "memory") (decimal m.words ∷ []) (memory_all m.words words_fit) ∙ memory_shape m.words words_fit)
+    let first = reads_push labels [] (1, memory) nothing (line.Memory (Some m.words)) (reads_nothing labels) (shaped (codes "memory") (decimal m.words ∷ []) (memory_all m.words words) ∙ memory_shape m.words words)
     (first_fine labels m.words limits.words_low high limits.words_whole) in
-    let second = reads_push labels ((1, memory) ∷ []) (2, cache) (with_line nothing (line.Memory (Some m.words))) (line.Cache (Some m.sets) (Some m.ways)) first
-    (shaped (codes "cache") (decimal m.sets ∷ decimal m.ways ∷ []) (cache_all m.sets m.ways sets_fit ways_fit) ∙ cache_shape m.sets m.ways sets_fit ways_fit) (second_fine m labels (with_line nothing (line.Memory (Some m.words))) limits) in
-    let ends = tasks_steps m labels [] None m.tasks limits small entries refl in
-    let passed = ends.leads 3 two [] (omega arith) second in
-    let lines : content_lines (map_text m) ≡ two ++ passed.lines = start ∙ ap (λ x. two ++ x) (passed.cut ∙ append-nil passed.lines) in
-    let r = subst (λ (ls : List TextLine). Reads labels ls (behind m ends.earlier ends.current)) (sym lines) passed.reads in
-    let low : 2 ≤ length (content_lines (map_text m)) = rw lines (omega (arith, length-append two passed.lines)) in
-    (closed_reads labels (content_lines (map_text m)) end (behind m ends.earlier ends.current) r low, ap whole (sym r.value) ∙ whole_is m ends.earlier ends.current limits ends.all)
-  where
-    shaped : (t : List ℕ) (ts : List (List ℕ)) → list_all is_token (t ∷ ts) ≡ true → shape_of (joined (t ∷ ts)) ≡ shape (t ∷ ts)
-    shaped t ts h = ap shape (tokens_joined t ts h)
+    reads_push labels ((1, memory) ∷ []) (2, cache) (with_line nothing (line.Memory (Some m.words))) (line.Cache (Some m.sets) (Some m.ways)) first
+    (shaped (codes "cache") (decimal m.sets ∷ decimal m.ways ∷ []) (cache_all m.sets m.ways sets ways) ∙ cache_shape m.sets m.ways sets ways) (second_fine m labels (with_line nothing (line.Memory (Some m.words))) limits)
 
-    texts : (m : MapValue) (tasks : List ℕ) → line_text (codes "memory" ∷ decimal m.words ∷ []) ++ (line_text (codes "cache" ∷ decimal m.sets ∷ decimal m.ways ∷ []) ++ tasks)
-        ≡ joined (codes "memory" ∷ decimal m.words ∷ []) ++ 10 ∷ (joined (codes "cache" ∷ decimal m.sets ∷ decimal m.ways ∷ []) ++ 10 ∷ (tasks ++ []))
-    texts m tasks = simp (append_assoc, append-nil) refl
+map_joined : (m : MapValue) (tasks : List ℕ) → line_text (codes "memory" ∷ decimal m.words ∷ []) ++ (line_text (codes "cache" ∷ decimal m.sets ∷ decimal m.ways ∷ []) ++ tasks)
+    ≡ joined (codes "memory" ∷ decimal m.words ∷ []) ++ 10 ∷ (joined (codes "cache" ∷ decimal m.sets ∷ decimal m.ways ∷ []) ++ 10 ∷ (tasks ++ []))
+map_joined m tasks = simp (append_assoc, append-nil) refl
+
+two_cut : (m : MapValue) (tasks : List ℕ) → IsMap m → m.words < 4294967296 → m.ways < 4294967296
+    → content_lines (line_text (codes "memory" ∷ decimal m.words ∷ []) ++ (line_text (codes "cache" ∷ decimal m.sets ∷ decimal m.ways ∷ []) ++ tasks)) ≡ two_lines m ++ content_from 3 (pieces (tasks ++ []))
+two_cut m tasks limits words ways =
+    let cache = joined (codes "cache" ∷ decimal m.sets ∷ decimal m.ways ∷ []) in
+    let first = line_next 1 (codes "memory") (decimal m.words ∷ []) (cache ++ 10 ∷ (tasks ++ [])) (memory_all m.words words) in
+    let second = line_next 2 (codes "cache") (decimal m.sets ∷ decimal m.ways ∷ []) (tasks ++ []) (cache_all m.sets m.ways (sets_small m.sets limits.sets) ways) in
+    ap (λ x. content_from 1 (pieces x)) (map_joined m tasks) ∙ first ∙ ap (λ x. (1, joined (codes "memory" ∷ decimal m.words ∷ [])) ∷ x) second
+
+-- Reading a printed map gives the map.
+pub map_again : MapAgain
+map_again m labels end limits small entries =
+    let high = small.words in
+    let most = limits.ways_high in
+    let words : m.words < 4294967296 = omega arith in
+    let ways : m.ways < 4294967296 = omega arith in
+    let tasks = flat_map (task_text m.tasks) m.tasks in
+    let ends = tasks_steps m labels [] None m.tasks limits small entries refl in
+    let passed = ends.leads 3 (two_lines m) [] (omega arith) (two_read m labels limits high words ways) in
+    let lines : content_lines (map_text m) ≡ two_lines m ++ passed.lines = two_cut m tasks limits words ways ∙ ap (λ x. two_lines m ++ x) (passed.cut ∙ append-nil passed.lines) in
+    rw lines (ends_again m labels end (two_lines m ++ passed.lines) ends.earlier ends.current limits ends.all (omega (arith, length-append (two_lines m) passed.lines)) passed.reads)

@@ -3,3 +3,5 @@ pub mod Steps
 pub mod Shapes
 pub mod Found
 pub mod Again
+pub mod Named
+pub mod Fits

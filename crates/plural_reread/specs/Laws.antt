@@ -1,7 +1,7 @@
 -- Reading what was printed.
 use Rattle.std.specs.Prelude.{◌≡◌, ℕ, ◌<◌, ◌≤◌, false, List, length, slice_index_or, IsTrue}
 use Rattle.std.specs.List.{All}
-use Rattle.plural_bytes.specs.Lines.{content_lines}
+use Rattle.plural_bytes.specs.Lines.{TextLine, content_lines}
 use Rattle.plural_bytes.specs.Faults.{IsFaultless}
 use Rattle.plural_bytes.specs.Names.{is_name}
 use Rattle.plural_regions.specs.declared.region.Region.{Region}
@@ -39,3 +39,9 @@ pub record IsVersion1 (m : MapValue) : Type 0 where
 abbrev pub MapAgain : Type 0
 MapAgain = (m : MapValue) (labels : List (List ℕ)) (end : ℕ) → IsMap m → IsVersion1 m → All (λ (t : TaskValue). IsTrue (has labels t.entry)) m.tasks
     → IsFaultless (Breaks labels) (closed (content_lines (map_text m)) end) × (map_of (content_lines (map_text m)) ≡ m)
+
+-- The map that lines without a fault spell is within all limits, one that version 1 spells, and its tasks' entries are
+-- labels.
+abbrev pub MapFits : Type 0
+MapFits = (labels : List (List ℕ)) (lines : List TextLine) (end : ℕ) → IsFaultless (Breaks labels) (closed lines end)
+    → IsMap (map_of lines) × IsVersion1 (map_of lines) × All (λ (t : TaskValue). IsTrue (has labels t.entry)) (map_of lines).tasks

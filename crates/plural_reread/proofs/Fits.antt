@@ -1,0 +1,179 @@
+-- The map that lines without a fault spell is one that lines can be printed of.
+use Rattle.std.proofs.Common.{◌≡◌, ℕ, zero, suc, ◌+◌, ◌*◌, ◌<◌, ◌≤◌, Bool, true, false, Some, None, Option, inl, inr, List, [], ◌∷◌, ◌++◌, length, refl, ap, sym, subst, ◌∙◌, arith, append_assoc}
+use Rattle.std.specs.Prelude.{◌&&◌, ◌||◌, not, ⊤, MatchOption, unwrap_or, option_map, nat_le, ◌⊎◌}
+use Rattle.std.specs.List.{All}
+use Rattle.std.specs.Option.{option_map_or, option_to_list}
+use Rattle.std.proofs.lemmas.Bool.{false_from_ne_true, not-false, and_parts, leb-true, ltb-false, cases_lt}
+use Rattle.std.proofs.lemmas.List.{append-nil, length_push}
+use Rattle.std.proofs.lemmas.List.Elements.{All-push}
+use Rattle.std.proofs.lemmas.List.Sums.{fold_push}
+use Rattle.plural_bytes.specs.Lines.{TextLine}
+use Rattle.plural_bytes.specs.Faults.{IsFaultless}
+use Rattle.plural_bytes.specs.Names.{is_name}
+use Rattle.plural_regions.specs.declared.region.Region.{Region}
+use Rattle.plural_regions.specs.declared.region.Mode.{Mode}
+use Rattle.plural_regions.specs.Bounds.{IsInside, AllInside, IsLeastOutside}
+use Rattle.plural_regions.proofs.Edge.{inside_when, outside_when}
+use Rattle.plural_map.specs.declared.line.MapLine.{MapLine}
+use Rattle.plural_map.specs.declared.line.MapLine.TheVariants as line
+use Rattle.plural_map.specs.declared.fault.MapKind.{MapKind}
+use Rattle.plural_map.specs.declared.fault.MapKind.TheVariants as kinds
+use Rattle.plural_map.specs.declared.outcome.Dep.{Dep}
+use Rattle.plural_map.specs.Value.{TaskValue}
+use Rattle.plural_map.specs.RegionOf.{region_of}
+use Rattle.plural_map.specs.Shape.{shape_of}
+use Rattle.plural_map.specs.Parts.{Parts, number_of, with_dep, with_region, with_line, with_text, nothing, parts_of, whole}
+use Rattle.plural_map.specs.Rules.{Breaks, HasKind, IsInsideAt, IsOutsideAt, is_between, is_out_of_place, is_out_of_range, is_misnamed, is_too_many, has, closed}
+use Rattle.plural_map.proofs.Kept.{length_all, declared_all}
+use Rattle.plural_map.proofs.Keeps.{IsKept, kept_nothing, kept_more, kept_map}
+use Rattle.plural_reread.specs.Laws.{IsSpelledRegion, IsVersion1, MapFits}
+use Rattle.plural_reread.proofs.Named.{HasNames, line_named}
+
+-- ---- regions
+
+-- Where no instance is the least outside, all lie inside.
+none_up_to : (r : Region) (q w n : ℕ) → ((k : ℕ) → IsLeastOutside r q w k → ⊥) → n ≤ q → AllInside r n w
+none_up_to r q w zero none h k l = absurd (omega arith)
+none_up_to r q w (suc n) none h k l = by_last (none_up_to r q w n none (omega arith)) (cases_lt k n)
+  where
+    by_end : AllInside r n w → n ≡ k → (w < r.base + r.stride * k + r.count) ⊎ (r.base + r.stride * k + r.count ≤ w) → IsInside r k w
+    by_end before e (inl high) = absurd (none k (record { below = omega arith; outside = outside_when r k w high; least = subst (λ (x : ℕ). AllInside r x w) e before }))
+    by_end before e (inr low) = inside_when r k w low
+
+    by_last : AllInside r n w → (k < n) ⊎ (n ≤ k) → IsInside r k w
+    by_last before (inl low) = before k low
+    by_last before (inr high) = by_end before (omega arith) (cases_lt w (r.base + r.stride * k + r.count))
+
+inside_from : (p : Parts) (s : MapLine) → ((k : ℕ) → IsOutsideAt p s k → ⊥) → IsInsideAt p s
+inside_from p (line.Memory words) none = tt
+inside_from p (line.Cache sets ways) none = tt
+inside_from p (line.Task name kind entry budget) none = tt
+inside_from p (line.After name when) none = tt
+inside_from p line.End none = tt
+inside_from p (line.Region mode base stride count) none = by_task p.current none
+  where
+    by_task : (t : Option TaskValue) → ((k : ℕ) → IsOutsideAt (record p { current = t }) (line.Region mode base stride count) k → ⊥) → IsInsideAt (record p { current = t }) (line.Region mode base stride count)
+    by_task None none = tt
+    by_task (Some t) none = none_up_to (region_of mode base stride count) t.quota p.words t.quota none (omega arith)
+
+-- A number that is there and between two lies between them, whatever stands for none.
+between : (low high : ℕ) (n : Option ℕ) (d : ℕ) → is_between low high n ≡ true → (low ≤ unwrap_or n d) × (unwrap_or n d ≤ high)
+between low high None d e = absurd cc
+between low high (Some n) d e = let p = and_parts (nat_le low n) (nat_le n high) e in (leb-true low n p.0, leb-true n high p.1)
+
+region_spelled : (mode : Mode) (base stride count : Option ℕ) → is_out_of_range (line.Region mode base stride count) ≡ false → IsSpelledRegion (region_of mode base stride count)
+region_spelled mode base stride count e =
+    let p = and_parts (is_between 0 65535 base && is_between 0 65535 stride) (is_between 1 65536 count) (not-false _ e) in
+    let q = and_parts (is_between 0 65535 base) (is_between 0 65535 stride) p.0 in
+    let b = (between 0 65535 base 0 q.0).1 in
+    let s = (between 0 65535 stride 0 q.1).1 in
+    let c = (between 1 65536 count 1 p.1).1 in
+    record { base = omega arith; stride = omega arith; count = omega arith }
+
+-- ---- tasks
+
+-- What lines say of a task: names, a known label, no other join, regions that lines may spell.
+record IsWritten (labels : List (List ℕ)) (t : TaskValue) : Type 0 where
+  pub name : is_name t.name ≡ true
+  pub entry : is_name t.entry ≡ true
+  pub known : has labels t.entry ≡ true
+  pub every : t.some ≡ false
+  pub regions : All IsSpelledRegion t.regions
+
+-- What holds of the parts that n lines without a fault spell.
+record IsFit (labels : List (List ℕ)) (n : ℕ) (p : Parts) : Type 0 where
+  pub kept : IsKept n p
+  pub earlier : All (IsWritten labels) p.earlier
+  pub current : MatchOption p.current ⊤ (IsWritten labels)
+
+fit_nothing : (labels : List (List ℕ)) → IsFit labels 0 nothing
+fit_nothing labels = record { kept = kept_nothing; earlier = λ k d l. absurd (omega arith); current = tt }
+
+all_written : (labels : List (List ℕ)) (ts : List TaskValue) (o : Option TaskValue) → All (IsWritten labels) ts → MatchOption o ⊤ (IsWritten labels) → All (IsWritten labels) (ts ++ option_to_list o)
+all_written labels ts None h k = rw (append-nil ts) h
+all_written labels ts (Some t) h k = All-push (IsWritten labels) ts t h k
+
+or-false-right : (a b : Bool) → (a || b) ≡ false → b ≡ false
+or-false-right true b e = absurd cc
+or-false-right false b e = e
+
+dep_written : (labels : List (List ℕ)) (d : Dep) (o : Option TaskValue) → MatchOption o ⊤ (IsWritten labels) → MatchOption (option_map (with_dep d) o) ⊤ (IsWritten labels)
+dep_written labels d None h = tt
+dep_written labels d (Some t) h = record { name = h.name; entry = h.entry; known = h.known; every = h.every; regions = h.regions }
+
+region_written : (labels : List (List ℕ)) (r : Region) (o : Option TaskValue) → IsSpelledRegion r → MatchOption o ⊤ (IsWritten labels) → MatchOption (option_map (with_region r) o) ⊤ (IsWritten labels)
+region_written labels r None s h = tt
+region_written labels r (Some t) s h = record { name = h.name; entry = h.entry; known = h.known; every = h.every; regions = All-push IsSpelledRegion t.regions r h.regions s }
+
+-- One more line without a fault keeps it.
+fit_more : (labels : List (List ℕ)) (n : ℕ) (p : Parts) (s : MapLine) → IsFit labels n p → HasNames s → is_out_of_range s ≡ false → is_misnamed labels p s ≡ false → IsKept (n + 1) (with_line p s)
+    → IsFit labels (n + 1) (with_line p s)
+fit_more labels n p (line.Memory words) f h r m k = record { kept = k; earlier = f.earlier; current = f.current }
+fit_more labels n p (line.Cache sets ways) f h r m k = record { kept = k; earlier = f.earlier; current = f.current }
+fit_more labels n p (line.Task name kind entry budget) f h r m k = record {
+  kept = k;
+  earlier = all_written labels p.earlier p.current f.earlier f.current;
+  current = record { name = h.0; entry = h.1; known = not-false _ (or-false-right _ (not (has labels entry)) m); every = refl; regions = λ k d l. absurd (omega arith) };
+}
+fit_more labels n p (line.After name when) f h r m k = record { kept = k; earlier = f.earlier; current = dep_written labels (record { task = number_of name p.earlier; when = when }) p.current f.current }
+fit_more labels n p (line.Region mode base stride count) f h r m k = record {
+  kept = k;
+  earlier = f.earlier;
+  current = region_written labels (region_of mode base stride count) p.current (region_spelled mode base stride count r) f.current;
+}
+fit_more labels n p line.End f h r m k = record { kept = k; earlier = f.earlier; current = f.current }
+
+-- ---- all lines
+
+line_fit : (labels : List (List ℕ)) (before : List TextLine) (l : TextLine) → IsFit labels (length before) (parts_of before) → ((k : MapKind) → Breaks labels before l.1 k → ⊥)
+    → IsFit labels (length (before ++ l ∷ [])) (parts_of (before ++ l ∷ []))
+line_fit labels before l f none = by_shape (shape_of l.1) refl
+  where
+    by_shape : (o : Option MapLine) → shape_of l.1 ≡ o → IsFit labels (length (before ++ l ∷ [])) (parts_of (before ++ l ∷ []))
+    by_shape None e = absurd (none kinds.Form (rw e refl))
+    by_shape (Some s) e =
+        let p = parts_of before in
+        let clear : (k : MapKind) → HasKind labels (length before) p s k → ⊥ = (λ k h. none k (rw e h)) in
+        let place = false_from_ne_true (is_out_of_place (length before) p s) (λ h. clear kinds.Form h) in
+        let range = false_from_ne_true (is_out_of_range s) (λ h. clear kinds.Number h) in
+        let names = false_from_ne_true (is_misnamed labels p s) (λ h. clear kinds.Name h) in
+        let counts = false_from_ne_true (is_too_many p s) (λ h. clear kinds.Count h) in
+        let inside = inside_from p s (λ k h. clear (kinds.Outside k) h) in
+        let kept = kept_more labels (length before) p s f.kept place range names counts inside in
+        let next : parts_of (before ++ l ∷ []) ≡ with_line p s = fold_push with_text nothing before l ∙ ap (λ o. option_map_or (with_line p) o p) e in
+        rw (length_push before l, next) (fit_more labels (length before) p s f (line_named l.1 s e) range names kept)
+
+lines_fit : (labels : List (List ℕ)) (before rest : List TextLine) → IsFit labels (length before) (parts_of before) → IsFaultless (Breaks labels) (before ++ rest)
+    → IsFit labels (length (before ++ rest)) (parts_of (before ++ rest))
+lines_fit labels before [] f h = subst (λ (ls : List TextLine). IsFit labels (length ls) (parts_of ls)) (sym (append-nil before)) f
+lines_fit labels before (l ∷ rest) f h =
+    let one = line_fit labels before l f (λ k b. h.none l.0 k (record { before = before; text = l.1; after = rest; whole = refl; breaks = b })) in
+    let moved = append_assoc before (l ∷ []) rest in
+    let all = lines_fit labels (before ++ l ∷ []) rest one (subst (λ (ls : List TextLine). IsFaultless (Breaks labels) ls) (sym moved) h) in
+    subst (λ (ls : List TextLine). IsFit labels (length ls) (parts_of ls)) moved all
+
+whole_fits : (labels : List (List ℕ)) (n : ℕ) (p : Parts) → IsFit labels n p → 2 ≤ n → IsVersion1 (whole p)
+whole_fits labels n p f low =
+    let written = all_written labels p.earlier p.current f.earlier f.current in
+    record {
+      words = (f.kept.words (omega arith)).high;
+      few_tasks = omega (arith, length_all p.earlier p.current, f.kept.few);
+      each = λ i d l. record {
+        name = (written i d l).name;
+        entry = (written i d l).entry;
+        every = (written i d l).every;
+        earlier = (declared_all p.words p.earlier p.current f.kept.earlier f.kept.current i d l).before;
+        regions = (written i d l).regions;
+      };
+    }
+
+pub map_fits : MapFits
+map_fits labels lines end h =
+    let all = lines_fit labels [] (closed lines end) (fit_nothing labels) h in
+    let same : parts_of (closed lines end) ≡ parts_of lines = fold_push with_text nothing lines (end, []) in
+    let fit : IsFit labels (length (closed lines end)) (parts_of lines) = rw same at all in
+    let low : 2 ≤ length lines =
+    ltb-false (length lines) 2 (false_from_ne_true _ (λ (b : is_out_of_place (length lines) (parts_of lines) line.End ≡ true). h.none end kinds.Form (record { before = lines; text = []; after = []; whole = refl; breaks = b }))) in
+    let many : 2 ≤ length (closed lines end) = omega (arith, low, length_push lines (end, [])) in
+    let written = all_written labels (parts_of lines).earlier (parts_of lines).current fit.earlier fit.current in
+    (kept_map (length (closed lines end)) (parts_of lines) fit.kept many, whole_fits labels (length (closed lines end)) (parts_of lines) fit many, λ i d l. (written i d l).known)

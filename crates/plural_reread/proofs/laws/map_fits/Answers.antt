@@ -1,0 +1,5 @@
+use Rattle.plural_reread.proofs.Fits.{map_fits}
+use Rattle.plural_reread.proofs.laws.map_fits.Goals as goal
+
+pub returns : goal.returns
+returns c = map_fits
