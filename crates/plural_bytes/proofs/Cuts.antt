@@ -1,25 +1,32 @@
--- Cutting at the first element that passes.
-use Rattle.std.proofs.Common.{◌≡◌, ℕ, zero, suc, ◌+◌, ◌<◌, ◌≤◌, Bool, true, false, cond, ltb, List, [], ◌∷◌, length, take, drop, refl, ap, ◌∙◌, arith, Some, None}
+-- Cutting at the elements that pass a test: the lines of a text, and the tokens of a line.
+use Rattle.std.proofs.Common.{◌≡◌, ℕ, zero, suc, ◌+◌, ◌<◌, ◌≤◌, Bool, true, false, List, [], ◌∷◌, ◌++◌, length, take, drop, refl, ap, ◌∙◌, arith, Some, None}
 use Rattle.std.specs.Prelude.{position, filter}
 use Rattle.std.specs.List.{position_or_len, slice_split}
-use Rattle.std.proofs.lemmas.Bool.{cond-false, lt-ltb, ltb-true, ltb-false}
+use Rattle.std.proofs.lemmas.Bool.{cond-false, lt-ltb}
 use Rattle.std.proofs.lemmas.List.{length-take}
 use Rattle.std.proofs.lemmas.List.Splits.{slice_split_first}
 use Rattle.plural_bytes.specs.Lines.{pieces, is_line_end, is_blank, drop_while, has_text, tokens}
+use Rattle.plural_bytes.proofs.Passing.{HasNone, found, none_found, none_when}
 
-pub at_found : (p : ℕ → Bool) (xs : List ℕ) (i : ℕ) → position p xs ≡ Some i → (position_or_len p xs ≡ i) × (i < length xs)
-at_found p xs i e = found_by (ltb (position_or_len p xs) (length xs)) (position_or_len p xs) i e (λ t. ltb-true _ _ t)
-  where
-    found_by : (b : Bool) (n i : ℕ) → cond b (Some n) None ≡ Some i → (b ≡ true → n < length xs) → (n ≡ i) × (i < length xs)
-    found_by true n i e h = let same : n ≡ i = cc in (same, omega (arith, h refl))
-    found_by false n i e h = absurd cc
+-- ---- at each element that passes
 
-pub at_none : (p : ℕ → Bool) (xs : List ℕ) → position p xs ≡ None → length xs ≤ position_or_len p xs
-at_none p xs e = none_by (ltb (position_or_len p xs) (length xs)) (position_or_len p xs) e (λ t. ltb-false _ _ t)
-  where
-    none_by : (b : Bool) (n : ℕ) → cond b (Some n) None ≡ None → (b ≡ false → length xs ≤ n) → length xs ≤ n
-    none_by true n e h = absurd cc
-    none_by false n e h = h refl
+pub cut_at : {A : Type 0} (p : A → Bool) (xs : List A) (y : A) (ys : List A) → HasNone p xs → p y ≡ true → slice_split p (xs ++ y ∷ ys) ≡ xs ∷ slice_split p ys
+cut_at p [] y ys h e = rw e refl
+cut_at p (x ∷ xs) y ys h e = rw (h.0, cut_at p xs y ys h.1 e) refl
+
+-- A list of which none passes is one piece.
+pub uncut : {A : Type 0} (p : A → Bool) (xs : List A) → HasNone p xs → slice_split p xs ≡ xs ∷ []
+uncut p [] h = refl
+uncut p (x ∷ xs) h = rw (h.0, uncut p xs h.1) refl
+
+-- The same by the answer of `position`.
+pub cut_found : (p : ℕ → Bool) (xs : List ℕ) (i : ℕ) → position p xs ≡ Some i → slice_split p xs ≡ take i xs ∷ slice_split p (drop (i + 1) xs)
+cut_found p xs i e = let f = found p xs i e in slice_split_first p xs 0 (omega (arith, f.0, f.1)) ∙ ap (λ n. take n xs ∷ slice_split p (drop (n + 1) xs)) f.0
+
+pub uncut_whole : {A : Type 0} (p : A → Bool) (xs : List A) → position p xs ≡ None → slice_split p xs ≡ xs ∷ []
+uncut_whole p xs e = uncut p xs (none_when p xs e)
+
+-- ---- lines
 
 abbrev CutsAt : List ℕ → Type 0
 CutsAt text = (n : ℕ) → position_or_len is_line_end text ≡ n → n < length text → pieces text ≡ take n text ∷ pieces (drop (n + 1) text)
@@ -39,7 +46,7 @@ pieces_cut [] n e h = absurd (omega arith)
 pieces_cut (c ∷ cs) n e h = cut_step c cs (is_line_end c) refl (pieces_cut cs) n e h
 
 pub pieces_at : (text : List ℕ) (i : ℕ) → position is_line_end text ≡ Some i → pieces text ≡ take i text ∷ pieces (drop (i + 1) text)
-pieces_at text i e = let f = at_found is_line_end text i e in pieces_cut text i f.0 f.1
+pieces_at text i e = let f = found is_line_end text i e in pieces_cut text i f.0 f.1
 
 abbrev IsWhole : List ℕ → Type 0
 IsWhole text = length text ≤ position_or_len is_line_end text → 0 < length text → pieces text ≡ text ∷ []
@@ -57,7 +64,7 @@ pieces_whole [] h l = absurd (omega arith)
 pieces_whole (c ∷ cs) h l = whole_step c cs (is_line_end c) refl (pieces_whole cs) h l
 
 pub pieces_rest : (text : List ℕ) → position is_line_end text ≡ None → 0 < length text → pieces text ≡ text ∷ []
-pieces_rest text e l = pieces_whole text (at_none is_line_end text e) l
+pieces_rest text e l = pieces_whole text (omega (arith, none_found is_line_end text e)) l
 
 -- ---- tokens
 
@@ -92,25 +99,13 @@ drop_while_shorter (c ∷ cs) = shorter_step c cs (is_blank c) refl (drop_while_
 kept : (t : List ℕ) (ts : List (List ℕ)) → 0 < length t → filter has_text (t ∷ ts) ≡ t ∷ filter has_text ts
 kept t ts l = rw (lt-ltb 0 (length t) l) refl
 
-split_step : (c : ℕ) (cs : List ℕ) (b : Bool) → is_blank c ≡ b → (length cs ≤ position_or_len is_blank cs → slice_split is_blank cs ≡ cs ∷ []) → length (c ∷ cs) ≤ position_or_len is_blank (c ∷ cs) → slice_split is_blank (c ∷ cs) ≡ (c ∷ cs) ∷ []
-split_step c cs true t ih h = absurd (let z : suc (length cs) ≤ 0 = (rw t at h) in omega arith)
-split_step c cs false t ih h =
-    let z : suc (length cs) ≤ 1 + position_or_len is_blank cs = (rw t at h) in
-    rw (t, ih (omega arith)) refl
-
-pub slice_split_all : (text : List ℕ) → length text ≤ position_or_len is_blank text → slice_split is_blank text ≡ text ∷ []
-slice_split_all [] h = refl
-slice_split_all (c ∷ cs) h = split_step c cs (is_blank c) refl (slice_split_all cs) h
-
 pub tokens_at : (text : List ℕ) (i : ℕ) → Begins text → position is_blank text ≡ Some i → tokens text ≡ take i text ∷ tokens (drop (i + 1) text)
 tokens_at text i b e =
-    let f = at_found is_blank text i e in
+    let f = found is_blank text i e in
     let some : 0 < length text = omega (arith, f.1) in
     let nonzero : position_or_len is_blank text ≡ 0 → ⊥ = b.begins some in
-    let cut = slice_split_first is_blank text 0 (omega (arith, f.0, f.1)) in
     let long : 0 < length (take i text) = omega (arith, length-take i text, f.0, f.1, nonzero) in
-    ap (filter has_text) cut ∙ rw f.0 (kept (take i text) (slice_split is_blank (drop (i + 1) text)) long)
+    ap (filter has_text) (cut_found is_blank text i e) ∙ kept (take i text) (slice_split is_blank (drop (i + 1) text)) long
 
 pub tokens_whole : (text : List ℕ) → position is_blank text ≡ None → 0 < length text → tokens text ≡ text ∷ []
-tokens_whole text e l =
-    ap (filter has_text) (slice_split_all text (at_none is_blank text e)) ∙ kept text [] l
+tokens_whole text e l = ap (filter has_text) (uncut_whole is_blank text e) ∙ kept text [] l

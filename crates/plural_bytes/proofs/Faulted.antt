@@ -1,7 +1,9 @@
 -- Reading lines one after the other: no fault so far, or the first.
-use Rattle.std.proofs.Common.{◌≡◌, ℕ, ◌+◌, ◌<◌, ◌≤◌, List, [], ◌∷◌, ◌++◌, map, length, take, drop, get_or, refl, ap, sym, ◌∙◌, ◌⊎◌, inl, inr}
-use Rattle.std.proofs.lemmas.List.{take-append-drop, drop_more, map-append, map_more, take_at}
+use Rattle.std.proofs.Common.{◌≡◌, ℕ, ◌+◌, ◌<◌, ◌≤◌, List, [], ◌∷◌, ◌++◌, map, length, take, drop, get_or, refl, ap, sym, subst, subst₂, ◌∙◌, ◌⊎◌, inl, inr, append_assoc}
+use Rattle.std.proofs.lemmas.List.{take-append-drop, drop_more, map-append, map_more, take_at, length-map, length-take-le}
 use Rattle.plural_bytes.specs.Lines.{TextLine}
+use Rattle.plural_bytes.specs.declared.lines.Line.{Line}
+use Rattle.plural_bytes.specs.Spelled.{text_line, text_lines}
 use Rattle.plural_bytes.specs.Faults.{IsFaultless, IsFirstFault}
 
 not_nil : {A : Type 0} (ys : List A) (y : A) (zs : List A) → [] ≡ ys ++ y ∷ zs → ⊥
@@ -31,6 +33,43 @@ faultless_push B before line f here = record {
     | inr p ↦ f.none n k (record { before = h.before; text = h.text; after = p.0; whole = p.1; breaks = h.breaks })
   ];
 }
+
+-- ---- more lines
+
+-- A first fault of some lines is that of the same lines and more.
+pub first_before : {K : Type 0} (rank : K → ℕ) (B : List TextLine → List ℕ → K → Type 0) (lines more : List TextLine) (number : ℕ) (kind : K) → IsFirstFault rank B lines number kind → IsFirstFault rank B (lines ++ more) number kind
+first_before rank B lines more number kind f = record {
+  before = f.before;
+  text = f.text;
+  after = f.after ++ more;
+  whole = ap (λ xs. xs ++ more) f.whole ∙ append_assoc f.before ((number, f.text) ∷ f.after) more;
+  earlier = f.earlier;
+  breaks = f.breaks;
+  least = f.least;
+}
+
+-- Lines and one more have no fault where neither has.
+pub last_none : {K : Type 0} (B : List TextLine → List ℕ → K → Type 0) (lines : List TextLine) (last : TextLine) → IsFaultless B (lines ++ last ∷ []) → IsFaultless B lines × ((k : K) → B lines last.1 k → ⊥)
+last_none B lines last f = (
+  record {
+    none = λ number k h. f.none number k (record { before = h.before; text = h.text; after = h.after ++ last ∷ []; whole = ap (λ x. x ++ last ∷ []) h.whole ∙ append_assoc h.before ((number, h.text) ∷ h.after) (last ∷ []); breaks = h.breaks });
+  },
+  λ k b. f.none last.0 k (record { before = lines; text = last.1; after = []; whole = refl; breaks = b }),
+)
+
+-- Their first fault is one of the lines, or that of the last.
+pub last_first : {K : Type 0} (rank : K → ℕ) (B : List TextLine → List ℕ → K → Type 0) (lines : List TextLine) (last : TextLine) (number : ℕ) (k : K) → IsFirstFault rank B (lines ++ last ∷ []) number k
+    → IsFirstFault rank B lines number k ⊎ (IsFaultless B lines × (number ≡ last.0) × B lines last.1 k)
+last_first rank B lines last number k f = elim (split_last lines f.before last (number, f.text) f.after f.whole) [
+  | inl p ↦ inr (subst (IsFaultless B) (sym p.0) f.earlier, sym (ap (λ (l : TextLine). l.0) p.1), subst₂ (λ b t. B b t k) (sym p.0) (sym (ap (λ (l : TextLine). l.1) p.1)) f.breaks)
+  | inr p ↦ inl (record { before = f.before; text = f.text; after = p.0; whole = p.1; earlier = f.earlier; breaks = f.breaks; least = f.least })
+]
+
+-- ---- the lines of the code
+
+-- How many lines stand before the i-th.
+pub length_before : (xs : List Line) (i : ℕ) → i ≤ length xs → length (text_lines (take i xs)) ≡ i
+length_before xs i l = length-map (take i xs) text_line ∙ length-take-le i xs l
 
 -- the lines round the i-th
 pub round : {X : Type 0} (v : X → TextLine) (xs : List X) (i : ℕ) (d : X) → i < length xs → map v xs ≡ map v (take i xs) ++ v (get_or xs i d) ∷ map v (drop (i + 1) xs)

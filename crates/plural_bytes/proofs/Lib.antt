@@ -1,4 +1,5 @@
 pub mod Known
+pub mod Passing
 pub mod Cuts
 pub mod Valued
 pub mod Named
@@ -6,3 +7,8 @@ pub mod Faulted
 pub mod Sections
 pub mod Numbered
 pub mod Plain
+pub mod Ranges
+pub mod Decimals
+pub mod Hexadecimals
+pub mod Lined
+pub mod Tokens

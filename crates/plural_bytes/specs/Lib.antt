@@ -3,6 +3,7 @@ pub mod Streams
 pub mod InMemory
 pub mod Lines
 pub mod Numerals
+pub mod Hexadecimal
 pub mod Names
 pub mod NameFields
 pub mod NameBack

@@ -219,3 +219,36 @@ fn a_writer_of_std_is_a_sink(rt: HostRuntime) -> Result<(), Fail> {
     assert_eq!(rt; out.as_slice(), b"accepted".as_slice());
     Ok(())
 }
+
+#[test]
+fn a_number_is_read_up_to_a_limit(rt: HostRuntime) -> Result<(), Fail> {
+    let rows = [
+        (b"7".as_slice(), Some(Some(7))),
+        (b"0x1F".as_slice(), Some(Some(31))),
+        (b"32".as_slice(), Some(None)),
+        (b"99999999999999999999999".as_slice(), Some(None)),
+        (b"-1".as_slice(), None),
+        (b"".as_slice(), None),
+    ];
+    for (text, want) in rows {
+        assert_eq!(rt; bounded_number(text, 31), want);
+    }
+    Ok(())
+}
+
+#[test]
+fn texts_are_compared_and_put_one_behind_the_other(rt: HostRuntime) -> Result<(), Fail> {
+    assert_eq!(rt; is_word(b"task".as_slice(), b"task".as_slice()), true);
+    assert_eq!(rt; is_word(b"task".as_slice(), b"tasks".as_slice()), false);
+    let mut out = Vec::new(rt.alloc());
+    put(&mut out, b"budget ".as_slice()).ok().ok_or("memory")?;
+    put_number(&mut out, rt.alloc(), 4_294_967_295)
+        .ok()
+        .ok_or("memory")?;
+    put(&mut out, b" pc ".as_slice()).ok().ok_or("memory")?;
+    put(&mut out, hex(0x0a_bc_de).as_slice())
+        .ok()
+        .ok_or("memory")?;
+    assert_eq!(rt; out.as_slice(), b"budget 4294967295 pc 000abcde".as_slice());
+    Ok(())
+}

@@ -6,7 +6,7 @@ ghost use Rattle.plural_bytes.specs.Lines.{tokens};
 ghost use Rattle.plural_bytes.specs.Numerals.{numeral, bounded};
 ghost use Rattle.plural_statement.specs.Operands.{is_comma, is_open, alone, operands, one_of, two_of, three_of, unsigned_in, signed_in, word_in, halves, indexed};
 
-use plural_bytes::{NumberError, next_token, number};
+use plural_bytes::{bounded_number, next_token};
 
 fn find_comma(text: &[u8]) -> Option<usize>
     ensures { result ≡ position is_comma text.now }
@@ -73,17 +73,6 @@ pub(crate) fn three(text: &[u8]) -> Option<(&[u8], &[u8], &[u8])>
     match rest {
         None => Some((alone(a), alone(b), alone(c))),
         Some(_) => None,
-    }
-}
-
-fn bounded_number(text: &[u8], limit: u32) -> Option<Option<u32>>
-    ensures value { result ≡ option_map (λ n. bounded limit n) (numeral text.now) }
-    ensures bound { MatchOption result ⊤ (λ o. MatchOption o ⊤ (λ n. n ≤ limit)) }
-{
-    match number(text, u64::from(limit)) {
-        Err(NumberError::Form) => None,
-        Err(NumberError::Range) => Some(None),
-        Ok(n) => Some(Some(n as u32)),
     }
 }
 

@@ -2,7 +2,8 @@ use Rattle.std.proofs.Common.{ap, ◌+◌, ◌≤◌, ◌<◌, ◌∙◌, sym, l
 use Rattle.std.proofs.lemmas.List.{take_rest, drop_all, length-drop, nil_from_length}
 use Rattle.std.proofs.lemmas.Bool.{eqb-true, eqb-false}
 use Rattle.plural_bytes.specs.Lines.{tokens, is_blank}
-use Rattle.plural_bytes.proofs.Cuts.{at_found, tokens_at, tokens_whole, tokens_trimmed, begins, drop_while_shorter, Begins}
+use Rattle.plural_bytes.proofs.Passing.{found}
+use Rattle.plural_bytes.proofs.Cuts.{tokens_at, tokens_whole, tokens_trimmed, begins, drop_while_shorter, Begins}
 use Rattle.plural_bytes.proofs.lines.next_token.Goals as goal
 
 pub returns-then-is_empty-clause-tokens : goal.returns-then-is_empty-clause-tokens
@@ -20,7 +21,7 @@ pub returns-in-Some-clause-shorter : goal.returns-in-Some-clause-shorter
 returns-in-Some-clause-shorter c =
     let rest = c.trim_start-rest.result.now in
     let short : length rest ≤ length c.args.text.now = rw c.trim_start-rest.ensures (drop_while_shorter c.args.text.now) in
-    let f = at_found is_blank rest c.in-Some.i (sym c.find_blank.ensures ∙ c.in-Some.is) in
+    let f = found is_blank rest c.in-Some.i (sym c.find_blank.ensures ∙ c.in-Some.is) in
     rw (take_rest rest (c.in-Some.i + 1)) (omega (arith, length-drop (c.in-Some.i + 1) rest, f.1, short))
 
 pub returns-in-None-clause-tokens : goal.returns-in-None-clause-tokens
