@@ -2,8 +2,9 @@
 use Rattle.std.proofs.Common.{◌≡◌, ℕ, ◌+◌, ◌^◌, ◌<◌, ◌≤◌, Bool, true, false, ltb, leb, List, [], ◌∷◌, ◌++◌, length, map, refl, ap, sym, subst, ◌∙◌, arith, append_assoc}
 use Rattle.std.specs.Prelude.{◌||◌, ◌&&◌, ⊤, is_none, is_some}
 use Rattle.std.specs.List.{AllByRecursion, enumerate_from}
-use Rattle.std.proofs.lemmas.Bool.{le-ltb}
+use Rattle.std.proofs.lemmas.Bool.{both_ways, or_from, le-ltb}
 use Rattle.plural_bytes.specs.Lines.{TextLine, pieces, content_from, content_lines}
+use Rattle.plural_bytes.proofs.Lined.{line_first}
 use Rattle.plural_statement.specs.Statement.{label_of, instruction, line_of}
 use Rattle.plural_asm.specs.Labels.{words_in, size_of, place_after, place_of}
 use Rattle.plural_asm.specs.Words.{target_offset, words_at, gathered, label_at, labels_of}
@@ -13,7 +14,7 @@ use Rattle.plural_asm.specs.Laws.{Makes, words_text}
 use Rattle.plural_asm.specs.declared.object.AsmKind.{AsmKind}
 use Rattle.plural_asm.specs.declared.object.AsmKind.TheVariants as kinds
 use Rattle.plural_asm.proofs.Listed.{place_first}
-use Rattle.plural_asm.proofs.Lined.{no_label, all_left, line_first}
+use Rattle.plural_asm.proofs.Lined.{no_label, all_left}
 use Rattle.plural_asm.proofs.Texts.{Spells, spells}
 
 -- ---- one line
@@ -25,7 +26,7 @@ size_is : (w : ℕ) (text : List ℕ) → Spells w text → size_of text ≡ 1
 size_is w text h = ap words_in (statement_is w text h) ∙ h.says.one
 
 neither : (a b : Bool) → a ≡ false → b ≡ false → (a || b) ≡ true → ⊥
-neither a b e f h = let g : false ≡ true = sym (ap (λ x. x || b) e ∙ f) ∙ h in absurd cc
+neither a b e f h = both_ways (a || b) (or_from a b e f) h
 
 -- the line of a word has no fault behind fewer than 16,384 words
 sound : (all before : List TextLine) (w : ℕ) (text : List ℕ) → Spells w text → place_after before < 16384 → (kind : AsmKind) → Breaks all before text kind → ⊥
@@ -99,7 +100,7 @@ makes ls ws h l = record {
 }
 
 pub word_again : (n w : ℕ) → w < 2 ^ 32 → (content_lines (word_text w ++ 10 ∷ []) ≡ (1, word_text w) ∷ []) × Makes ((n, word_text w) ∷ []) (w ∷ [])
-word_again n w l = (line_first 1 (word_text w) [] (spells w l).line, makes ((n, word_text w) ∷ []) (w ∷ []) (spells w l, tt) (omega arith))
+word_again n w l = (line_first 1 (word_text w) [] (spells w l).line.line, makes ((n, word_text w) ∷ []) (w ∷ []) (spells w l, tt) (omega arith))
 
 -- ---- the text of words
 
@@ -110,7 +111,7 @@ stay_from : (n : ℕ) (ws : List ℕ) → AllWords ws → content_from n (pieces
 stay_from n [] h = refl
 stay_from n (w ∷ ws) h =
     ap (λ t. content_from n (pieces t)) (append_assoc (word_text w) (10 ∷ []) (words_text ws))
-    ∙ line_first n (word_text w) (words_text ws) (spells w h.0).line
+    ∙ line_first n (word_text w) (words_text ws) (spells w h.0).line.line
     ∙ ap (λ ls. (n, word_text w) ∷ ls) (stay_from (n + 1) ws h.1)
 
 pub texts_stay : (ws : List ℕ) → AllWords ws → content_lines (words_text ws) ≡ enumerate_from 1 (map word_text ws)

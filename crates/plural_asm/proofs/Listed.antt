@@ -1,8 +1,9 @@
 -- What lists of lines give, one more line.
 use Rattle.std.proofs.Common.{◌≡◌, ℕ, ◌+◌, ◌<◌, Bool, true, false, Option, Some, None, List, [], ◌∷◌, ◌++◌, length, take, get_or, refl, ap, sym, ◌∙◌, arith, append_assoc, length-append}
 use Rattle.std.specs.Prelude.{◌||◌, ◌==◌, ◌%◌, cond}
-use Rattle.std.specs.List.{filter_map, cons_option}
+use Rattle.std.specs.List.{cons_option}
 use Rattle.std.proofs.lemmas.List.{append-nil, map_more}
+use Rattle.std.proofs.lemmas.List.Elements.{filter_map-append}
 use Rattle.std.proofs.lemmas.List.Sums.{sum_by-append}
 use Rattle.plural_bytes.specs.Lines.{TextLine}
 use Rattle.plural_bytes.specs.declared.lines.Line.{Line}
@@ -13,17 +14,9 @@ use Rattle.plural_asm.specs.Words.{li_words, words_at, gathered, code_of}
 use Rattle.plural_statement.specs.declared.statement.Statement.{Statement}
 use Rattle.plural_statement.specs.declared.statement.Statement.TheVariants.{Nothing, Known, Li, Jump, Branch}
 
-onto : {Y : Type 0} (o : Option Y) (xs ys : List Y) → cons_option o (xs ++ ys) ≡ cons_option o xs ++ ys
-onto None xs ys = refl
-onto (Some y) xs ys = refl
-
-filter_map-push : {X Y : Type 0} (h : X → Option Y) (xs ys : List X) → filter_map h (xs ++ ys) ≡ filter_map h xs ++ filter_map h ys
-filter_map-push h [] ys = refl
-filter_map-push h (x ∷ xs) ys = ap (λ zs. cons_option (h x) zs) (filter_map-push h xs ys) ∙ onto (h x) (filter_map h xs) (filter_map h ys)
-
 -- the names of one more line
 pub names_more : (xs : List Line) (i : ℕ) (d : Line) (o : Option (List ℕ)) → i < length xs → o ≡ label_of (get_or xs i d).text.now → names_of (text_lines (take (i + 1) xs)) ≡ names_of (text_lines (take i xs)) ++ cons_option o []
-names_more xs i d o l e = rw e (ap names_of (map_more text_line xs i d l) ∙ filter_map-push (λ l. label_of l.1) (text_lines (take i xs)) (text_line (get_or xs i d) ∷ []))
+names_more xs i d o l e = rw e (ap names_of (map_more text_line xs i d l) ∙ filter_map-append (λ l. label_of l.1) (text_lines (take i xs)) (text_line (get_or xs i d) ∷ []))
 
 -- the place after a first line and others
 pub place_first : (l : TextLine) (ls : List TextLine) → place_after (l ∷ ls) ≡ size_of l.1 + place_after ls

@@ -1,37 +1,23 @@
 -- The places of labels, one more line.
-use Rattle.std.proofs.Common.{◌≡◌, ℕ, suc, ◌+◌, ◌<◌, ◌≤◌, Bool, true, false, cond, eqb, Option, Some, None, List, [], ◌∷◌, ◌++◌, length, take, get_or, refl, ap, sym, ◌∙◌, arith, inl, inr}
-use Rattle.std.specs.Prelude.{not, bytes_eq, position, is_some}
-use Rattle.std.specs.List.{prefix_len, position_or_len}
+use Rattle.std.proofs.Common.{◌≡◌, ℕ, ◌+◌, ◌<◌, ◌≤◌, Bool, true, false, cond, eqb, Option, Some, None, List, [], ◌∷◌, ◌++◌, length, take, get_or, refl, ap, sym, ◌∙◌, arith, inl, inr}
+use Rattle.std.specs.Prelude.{not, bytes_eq, is_some}
+use Rattle.std.specs.List.{position_or_len}
 use Rattle.std.specs.Ordering.{is_eq, nat_cmp}
 use Rattle.std.specs.Cmp.Lexicographic.{slice_cmp}
-use Rattle.std.proofs.lemmas.Bool.{cases_lt, lt-ltb, le-ltb, eq-eqb, ne_eqb, cond-true, cond-false}
+use Rattle.std.proofs.lemmas.Bool.{cases_lt, eq-eqb, ne_eqb, cond-true, cond-false}
 use Rattle.std.proofs.lemmas.List.{take-append-le, take_at, length_push, map_more}
 use Rattle.std.proofs.lemmas.List.Folds.{position_or_len_push}
-use Rattle.std.proofs.lemmas.List.Sums.{sum_by-append}
+use Rattle.std.proofs.lemmas.List.Sums.{sum_by-append, prefix_len-le-length}
 use Rattle.std.proofs.lemmas.Map.Text.{is_eq-slice_cmp}
 use Rattle.plural_bytes.specs.Lines.{TextLine}
 use Rattle.plural_bytes.specs.declared.lines.Line.{Line}
 use Rattle.plural_bytes.specs.Spelled.{text_line, text_lines}
+use Rattle.plural_bytes.proofs.Passing.{found_at, found_none}
 use Rattle.plural_statement.specs.Statement.{label_of}
 use Rattle.plural_asm.specs.Labels.{size_of, is_option, has_label, place_after, place_of, noted}
 
 pub place_after_push : (ls : List TextLine) (l : TextLine) → place_after (ls ++ l ∷ []) ≡ place_after ls + size_of l.1
 place_after_push ls l = sum_by-append (λ x. size_of x.1) ls (l ∷ []) ∙ omega arith
-
-prefix_short : (p : TextLine → Bool) (ls : List TextLine) → prefix_len p ls ≤ length ls
-prefix_short p [] = omega arith
-prefix_short p (l ∷ ls) = short_step (p l) (prefix_len p ls) (length ls) (prefix_short p ls)
-  where
-    short_step : (b : Bool) (k n : ℕ) → k ≤ n → cond b (1 + k) 0 ≤ suc n
-    short_step true k n h = omega arith
-    short_step false k n h = omega arith
-
--- where the first line of a list with one more at its end is
-found_at : (p : TextLine → Bool) (ls : List TextLine) (n : ℕ) → position_or_len p ls ≡ n → n < length ls → position p ls ≡ Some n
-found_at p ls n e h = rw (e, lt-ltb n (length ls) h) refl
-
-found_none : (p : TextLine → Bool) (ls : List TextLine) → length ls ≤ position_or_len p ls → position p ls ≡ None
-found_none p ls h = rw (le-ltb (position_or_len p ls) (length ls) h) refl
 
 abbrev Pushed : List TextLine → TextLine → List ℕ → Type 0
 Pushed ls l q = place_of (ls ++ l ∷ []) q ≡ noted (place_of ls q) (has_label q l) (place_after ls)
@@ -50,14 +36,14 @@ earlier ls l q h =
 last : (ls : List TextLine) (l : TextLine) (q : List ℕ) (b : Bool) → has_label q l ≡ b → length ls ≤ position_or_len (has_label q) ls → Pushed ls l q
 last ls l q true e h =
     let p = has_label q in
-    let same : position_or_len p ls ≡ length ls = omega (arith, h, prefix_short (λ x. not (p x)) ls) in
+    let same : position_or_len p ls ≡ length ls = omega (arith, h, prefix_len-le-length (λ (x : TextLine). not (p x)) ls) in
     let pushed : position_or_len p (ls ++ l ∷ []) ≡ length ls = position_or_len_push p ls l ∙ cond-true _ _ _ (eq-eqb _ _ same) ∙ rw e (omega arith) in
     let new = found_at p (ls ++ l ∷ []) (length ls) pushed (omega (arith, length_push ls l)) in
     let old = found_none p ls h in
     rw (new, old, e, take_at ls (l ∷ []) (length ls) refl) refl
 last ls l q false e h =
     let p = has_label q in
-    let same : position_or_len p ls ≡ length ls = omega (arith, h, prefix_short (λ x. not (p x)) ls) in
+    let same : position_or_len p ls ≡ length ls = omega (arith, h, prefix_len-le-length (λ (x : TextLine). not (p x)) ls) in
     let pushed : position_or_len p (ls ++ l ∷ []) ≡ length ls + 1 = position_or_len_push p ls l ∙ cond-true _ _ _ (eq-eqb _ _ same) ∙ rw e refl in
     let new = found_none p (ls ++ l ∷ []) (omega (arith, pushed, length_push ls l)) in
     let old = found_none p ls h in

@@ -1,13 +1,15 @@
 -- The text of an instruction is read as the instruction, shape by shape.
 use Rattle.std.proofs.Common.{◌≡◌, ℕ, ◌+◌, ◌-◌, Bool, true, false, cond, eqb, Some, List, [], ◌∷◌, ◌++◌, length, take, drop, get_or, refl, ap, sym, ◌∙◌, arith, append_assoc, length-append}
-use Rattle.std.specs.Prelude.{ℤ, not, ◌==◌, option_map, option_and_then}
+use Rattle.std.specs.Prelude.{ℤ, ◌==◌, option_map, option_and_then}
 use Rattle.std.specs.Option.{option_map_or}
-use Rattle.std.specs.List.{list_all, before_first, after_first}
+use Rattle.std.specs.List.{before_first, after_first}
 use Rattle.std.proofs.lemmas.Bool.{and_from, ltb-true, ne_eqb, cond-true, cond-false}
 use Rattle.std.proofs.lemmas.List.{length_push, take_at, get_or_at}
 use Rattle.std.proofs.lemmas.List.Folds.{list_all-append}
 use Rattle.plural_bytes.specs.Lines.{is_blank, drop_while}
 use Rattle.plural_bytes.specs.Names.{name_of}
+use Rattle.plural_bytes.proofs.Passing.{HasNone, position_at, before_at, after_at, drop_past}
+use Rattle.plural_bytes.proofs.Lined.{begins_of, no_front}
 use Rattle.plural_isa.specs.RegisterNames.{named}
 use Rattle.plural_statement.specs.Mnemonics.{mnemonic_text, mnemonic_of}
 use Rattle.plural_statement.specs.Operands.{is_open, one_of, two_of, three_of, unsigned_in, signed_in, halves, indexed}
@@ -16,19 +18,15 @@ use Rattle.plural_statement.specs.declared.mnemonics.Mnemonic.{Mnemonic}
 use Rattle.plural_statement.specs.declared.statement.Target.{Target}
 use Rattle.plural_statement.specs.declared.statement.Target.TheVariants.{Offset, Label}
 use Rattle.plural_statement.specs.declared.statement.Statement.TheVariants.{Nothing}
-use Rattle.plural_asm.proofs.Plain.{is_word, is_solid, HasNone, IsOperand, word_no_blank, weaker, position_at, before_at, after_at, drop_past, one_operand, two_operands, three_operands}
-use Rattle.plural_asm.proofs.Lined.{begins_of, begins_more, no_front}
+use Rattle.plural_asm.proofs.Plain.{is_solid, IsOperand, solid_of, plain_of, no_blank, one_operand, two_operands, three_operands}
 use Rattle.plural_asm.proofs.Spelled.{IsSpelled}
 
 -- ---- the mnemonic and its operands
 
-no_blank : (xs : List ℕ) → list_all is_word xs ≡ true → HasNone is_blank xs
-no_blank xs h = weaker is_word (λ c. not (is_blank c)) word_no_blank xs h
-
 pub instruction_at : (k : Mnemonic) (o : List ℕ) → IsSpelled k → instruction (mnemonic_text k ++ 32 ∷ o) ≡ statement_at k o
 instruction_at k o s =
     let text = mnemonic_text k ++ 32 ∷ o in
-    let front : drop_while is_blank text ≡ text = no_front text (begins_more (mnemonic_text k) (32 ∷ o) (begins_of (mnemonic_text k) s.0 (ltb-true 0 (length (mnemonic_text k)) s.1))) in
+    let front : drop_while is_blank text ≡ text = no_front text (begins_of (mnemonic_text k) (32 ∷ o) (plain_of (mnemonic_text k) (solid_of (mnemonic_text k) s.0)) (ltb-true 0 (length (mnemonic_text k)) s.1)) in
     let some : eqb (length text) 0 ≡ false = ne_eqb (length text) 0 (λ e. omega (arith, length-append (mnemonic_text k) (32 ∷ o))) in
     ap (λ t. cond (length t == 0) (Some Nothing) (option_and_then (λ j. statement_at j (after_first is_blank t)) (mnemonic_of (before_first is_blank t)))) front
     ∙ cond-false _ _ _ some

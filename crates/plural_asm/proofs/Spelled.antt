@@ -17,8 +17,7 @@ use Rattle.plural_isa.specs.declared.instr.RegOp.TheVariants as reg
 use Rattle.plural_statement.specs.Mnemonics.{mnemonic_text, mnemonic_of}
 use Rattle.plural_statement.specs.declared.mnemonics.Mnemonic.{Mnemonic}
 use Rattle.plural_statement.specs.declared.mnemonics.Mnemonic.TheVariants as m
-use Rattle.plural_asm.proofs.Plain.{is_word, IsOperand}
-use Rattle.plural_asm.proofs.Lined.{solid_of}
+use Rattle.plural_asm.proofs.Plain.{is_word, IsOperand, solid_of}
 
 -- a mnemonic is found by its text, which isn't empty and has bytes of a word alone
 abbrev pub IsSpelled : Mnemonic → Type 0

@@ -1,10 +1,12 @@
 -- The text of a word is a line that says the word.
 use Rattle.std.proofs.Common.{◌≡◌, ℕ, ◌%◌, ◌^◌, ◌<◌, Bool, true, false, eqb, Option, Some, None, List, [], ◌∷◌, ◌++◌, length, refl, ap, sym, ◌∙◌, arith, append_assoc, inl, inr}
-use Rattle.std.specs.Prelude.{ℤ, not, pos, negsuc, neg_ℤ, ◌≤ℤ◌, ◌<ℤ◌, codes, decimal, is_none, option_map}
+use Rattle.std.specs.Prelude.{ℤ, pos, negsuc, neg_ℤ, ◌≤ℤ◌, ◌<ℤ◌, codes, decimal, is_none, option_map}
 use Rattle.std.specs.List.{list_all}
 use Rattle.std.specs.Fmt.{signed_decimal}
 use Rattle.std.proofs.lemmas.Int.{ints}
 use Rattle.std.proofs.lemmas.Bool.{and_from, ltb-true, lt-ltb, eq-eqb, eqb-true, cases_Bool, cond-true, cond-false}
+use Rattle.plural_bytes.specs.Hexadecimal.{hex_text}
+use Rattle.plural_bytes.proofs.Passing.{HasNone, none_pass}
 use Rattle.plural_isa.specs.RegisterNames.{plain_name}
 use Rattle.plural_isa.specs.Decoding.{decoded}
 use Rattle.plural_isa.specs.Encoding.{word_of, is_shift, IsWithin, IsOffset, IsAmount, Fits, HasRegisters}
@@ -21,16 +23,16 @@ use Rattle.plural_statement.specs.Statement.{with_imm, with_field, reg_field, re
 use Rattle.plural_asm.specs.Labels.{words_in}
 use Rattle.plural_asm.specs.Words.{reaches, offset_in, jump_word, branch_word, target_offset, words_at}
 use Rattle.plural_asm.specs.Rules.{is_out_of_range, is_unknown, is_far}
-use Rattle.plural_asm.specs.WordText.{reg_number_text, reg_address_text, regs_number_text, regs_text, hex_text, data_text, instr_text, text_from, word_text}
+use Rattle.plural_asm.specs.WordText.{reg_number_text, reg_address_text, regs_number_text, regs_text, data_text, instr_text, text_from, word_text}
 use Rattle.plural_statement.specs.declared.mnemonics.Mnemonic.{Mnemonic}
 use Rattle.plural_statement.specs.declared.mnemonics.Mnemonic.TheVariants as m
 use Rattle.plural_statement.specs.declared.statement.Target.TheVariants.{Offset}
 use Rattle.plural_statement.specs.declared.statement.Statement.{Statement}
 use Rattle.plural_statement.specs.declared.statement.Statement.TheVariants.{Known, Jump, Branch}
 use Rattle.plural_asm.specs.declared.offset.Offset.TheVariants.{At}
-use Rattle.plural_asm.proofs.Plain.{is_word, HasNone, IsOperand, word_no_open, weaker}
+use Rattle.plural_asm.proofs.Plain.{is_word, IsOperand, word_no_open, solid_of}
 use Rattle.plural_asm.proofs.Decimals.{IsBetween, signed_words, signed_some, unsigned_back, signed_back, hex_words, word_back}
-use Rattle.plural_asm.proofs.Lined.{IsLine, IsTail, solid_of, last_tail, more_tail, word_line, tail_line}
+use Rattle.plural_asm.proofs.Lined.{IsUnlabelled, IsTail, last_tail, more_tail, word_line, tail_line}
 use Rattle.plural_asm.proofs.Spelled as spelled
 use Rattle.plural_asm.proofs.Spelled.{IsSpelled, named_back, name_operand}
 use Rattle.plural_asm.proofs.Shapes.{instruction_at, address_text, address_operand, reg_field_is, reg_target_is, reg_indexed_is, regs_imm_is, three_regs_is, regs_target_is, target_is, one_word_is}
@@ -80,7 +82,7 @@ says_branch w op rs1 rs2 z h e = record {
 
 -- a text is a line whose instruction makes this one word
 pub record Spells (w : ℕ) (text : List ℕ) : Type 0 where
-  pub line : IsLine text
+  pub line : IsUnlabelled text
   pub statement : Option Statement
   pub is : instruction text ≡ statement
   pub says : Says w statement
@@ -112,7 +114,7 @@ number_operand : (z : ℤ) → IsSmall z → IsOperand (signed_decimal z)
 number_operand z h = record { solid = solid_of (signed_decimal z) (signed_words z h.0 h.1); some = signed_some z h.0 h.1 }
 
 number_no_open : (z : ℤ) → IsSmall z → HasNone is_open (signed_decimal z)
-number_no_open z h = weaker is_word (λ c. not (is_open c)) word_no_open (signed_decimal z) (signed_words z h.0 h.1)
+number_no_open z h = none_pass is_word is_open word_no_open (signed_decimal z) (signed_words z h.0 h.1)
 
 small_imm : (z : ℤ) → IsWithin 2048 z → IsSmall z
 small_imm z h = (omega (arith, ints), omega (arith, ints))

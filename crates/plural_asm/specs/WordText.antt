@@ -1,6 +1,7 @@
 -- The text of a word, as an assembler line.
-use Rattle.std.specs.Prelude.{ℕ, zero, suc, ◌+◌, ◌/◌, ◌%◌, List, [], ◌∷◌, ◌++◌, Option, Some, None, ℤ, pos, codes, nat_lt, if◌then◌else◌, ◌==◌}
+use Rattle.std.specs.Prelude.{ℕ, List, [], ◌∷◌, ◌++◌, Option, Some, None, ℤ, pos, codes, if◌then◌else◌, ◌==◌}
 use Rattle.std.specs.Fmt.{signed_decimal}
+use Rattle.plural_bytes.specs.Hexadecimal.{hex_text}
 use Rattle.plural_isa.specs.Decoding.{decoded}
 use Rattle.plural_isa.specs.RegisterNames.{plain_name}
 use Rattle.plural_isa.specs.declared.instr.Instr.{Instr}
@@ -28,15 +29,6 @@ regs_number_text k a b z = ((((head_text k ++ plain_name a) ++ codes ", ") ++ pl
 -- `m a, b, c`
 abbrev pub regs_text : Mnemonic → (a b c : ℕ) → List ℕ
 regs_text k a b c = ((((head_text k ++ plain_name a) ++ codes ", ") ++ plain_name b) ++ codes ", ") ++ plain_name c
-
--- the lower-case digit of a number below 16
-abbrev pub hex_digit : ℕ → ℕ
-hex_digit d = if nat_lt d 10 then 48 + d else 87 + d
-
--- the last k hexadecimal digits of a number
-abbrev pub hex_text : ℕ → ℕ → List ℕ
-hex_text zero n = []
-hex_text (suc k) n = hex_text k (n / 16) ++ hex_digit (n % 16) ∷ []
 
 -- `.word 0x` and eight digits
 abbrev pub data_text : ℕ → List ℕ

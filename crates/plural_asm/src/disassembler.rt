@@ -1,13 +1,13 @@
 //! The text of a word, as an assembler line.
 
-ghost use Rattle.std.specs.Prelude.{◌≡◌, ◌<◌, ◌≤◌, ◌++◌, ◌∷◌, [], ℕ, pos, codes, IfOk, OnOk};
+ghost use Rattle.std.specs.Prelude.{◌≡◌, ◌++◌, codes, IfOk, OnOk};
 ghost use Rattle.std.specs.Fmt.{signed_decimal};
 ghost use Rattle.plural_isa.specs.RegisterNames.{plain_name};
 ghost use Rattle.plural_isa.specs.declared.instr.Instr.TheVariants as instr;
 ghost use Rattle.plural_statement.specs.Mnemonics.{mnemonic_text};
-ghost use Rattle.plural_asm.specs.WordText.{head_text, reg_number_text, reg_address_text, regs_number_text, regs_text, hex_digit, hex_text, data_text, instr_text, word_text};
+ghost use Rattle.plural_asm.specs.WordText.{head_text, reg_number_text, reg_address_text, regs_number_text, regs_text, data_text, instr_text, word_text};
 
-use plural_bytes::Memory;
+use plural_bytes::{Memory, hex, put};
 use plural_isa::{Instr, Reg, decode, reg_name};
 use plural_statement::{Mnemonic, mnemonic_text};
 use std::alloc::Global;
@@ -18,38 +18,27 @@ const FENCE: u32 = 0x0ff0_000f;
 fn put_mnemonic(out: &mut Vec<u8>, mnemonic: Mnemonic) -> Result<(), Memory>
     ensures { OnOk result (out.new.items ≡ out.old.items ++ mnemonic_text mnemonic) }
 {
-    out.extend_from_slice(mnemonic_text(mnemonic).as_bytes())?;
-    Ok(())
+    put(out, mnemonic_text(mnemonic).as_bytes())
 }
 
 fn put_head(out: &mut Vec<u8>, mnemonic: Mnemonic) -> Result<(), Memory>
     ensures { OnOk result (out.new.items ≡ out.old.items ++ head_text mnemonic) }
 {
     put_mnemonic(out, mnemonic)?;
-    out.push(b' ')?;
-    Ok(())
+    put(out, b" ")
 }
 
 fn put_reg(out: &mut Vec<u8>, reg: Reg) -> Result<(), Memory>
     ensures { OnOk result (out.new.items ≡ out.old.items ++ plain_name reg) }
 {
-    out.extend_from_slice(reg_name(reg).as_bytes())?;
-    Ok(())
-}
-
-fn put_comma(out: &mut Vec<u8>) -> Result<(), Memory>
-    ensures { OnOk result (out.new.items ≡ out.old.items ++ codes ", ") }
-{
-    out.extend_from_slice(b", ")?;
-    Ok(())
+    put(out, reg_name(reg).as_bytes())
 }
 
 fn put_number(alloc: Global, out: &mut Vec<u8>, number: i64) -> Result<(), Memory>
     ensures { OnOk result (out.new.items ≡ out.old.items ++ signed_decimal number) }
 {
     let text = format!(in alloc; "{number}")?;
-    out.extend_from_slice(text.as_bytes())?;
-    Ok(())
+    put(out, text.as_bytes())
 }
 
 fn put_reg_number(
@@ -63,7 +52,7 @@ fn put_reg_number(
 {
     put_head(out, mnemonic)?;
     put_reg(out, a)?;
-    put_comma(out)?;
+    put(out, b", ")?;
     put_number(alloc, out, number)
 }
 
@@ -89,9 +78,9 @@ fn put_two_regs(out: &mut Vec<u8>, mnemonic: Mnemonic, a: Reg, b: Reg) -> Result
 {
     put_head(out, mnemonic)?;
     put_reg(out, a)?;
-    put_comma(out)?;
+    put(out, b", ")?;
     put_reg(out, b)?;
-    put_comma(out)
+    put(out, b", ")
 }
 
 fn put_regs_number(
@@ -116,37 +105,11 @@ fn put_regs(out: &mut Vec<u8>, mnemonic: Mnemonic, a: Reg, b: Reg, c: Reg) -> Re
     put_reg(out, c)
 }
 
-fn hex_digit(d: u32) -> u8
-    requires { d < 16 }
-    ensures { result ≡ hex_digit d }
-{
-    if d < 10 {
-        b'0' + d as u8
-    } else {
-        b'a' + (d as u8 - 10)
-    }
-}
-
-fn hex(word: u32) -> [u8; 8]
-    ensures { result ≡ hex_text 8 word }
-{
-    let mut text = [0; 8];
-    let mut rest = word;
-    let mut at = 8;
-    while at > 0 {
-        at -= 1;
-        text[at] = hex_digit(rest % 16);
-        rest /= 16;
-    }
-    text
-}
-
 fn put_data(out: &mut Vec<u8>, word: u32) -> Result<(), Memory>
     ensures { OnOk result (out.new.items ≡ out.old.items ++ data_text word) }
 {
-    out.extend_from_slice(b".word 0x")?;
-    out.extend_from_slice(&hex(word))?;
-    Ok(())
+    put(out, b".word 0x")?;
+    put(out, &hex(word))
 }
 
 fn put_fence(out: &mut Vec<u8>, word: u32) -> Result<(), Memory>

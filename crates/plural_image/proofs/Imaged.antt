@@ -7,7 +7,7 @@ use Rattle.std.proofs.lemmas.Bool.{cases_lt}
 use Rattle.plural_bytes.specs.Lines.{TextLine}
 use Rattle.plural_bytes.specs.declared.lines.Line.{Line}
 use Rattle.plural_bytes.specs.Spelled.{text_line, text_lines}
-use Rattle.plural_bytes.proofs.Faulted.{faultless_nil, faultless_push, first_fault, faultless_more}
+use Rattle.plural_bytes.proofs.Faulted.{faultless_nil, faultless_push, first_fault}
 use Rattle.plural_bytes.specs.Faults.{IsFaultless, IsFirstFault}
 use Rattle.plural_image.specs.Shape.{image_line}
 use Rattle.plural_image.specs.Image.{end_of, end_before, IsMisplaced, Breaks, rank, overwritten, placed, image_of}
@@ -66,22 +66,6 @@ address_first w xs i d words floor a new l r shape m =
     (address_here w (text_lines (take i xs)) (get_or xs i d).text.now (a, new) (sym shape) (rw (← r.floor_is) m))
     (address_least w (text_lines (take i xs)) (get_or xs i d).text.now (a, new) (sym shape))
 
-pub reads_more : (w : ℕ) (xs : List Line) (i : ℕ) (d : Line) (words written : List ℕ) (floor a : ℕ) (new : List ℕ) → i < length xs → Reads w (text_lines (take i xs)) words floor
-    → Some (a, new) ≡ image_line (get_or xs i d).text.now → (IsMisplaced w floor (a, new) → ⊥) → written ≡ overwritten words a new
-    → Reads w (text_lines (take (i + 1) xs)) written (a + length new)
-reads_more w xs i d words written floor a new l r shape fits e =
-    let lines = text_lines (take i xs) in
-    let line = text_line (get_or xs i d) in
-    let inside : a + length new ≤ length words = elim (cases_lt w (a + length new)) [ inl lt ↦ absurd (fits (inl lt)) | inr le ↦ omega (arith, le, r.len) ] in
-    record {
-      faultless = faultless_more (Breaks w) text_line xs i d l r.faultless (no_fault w lines line.1 (a, new) (sym shape) (λ m. fits (rw r.floor_is m)));
-      image = e ∙ ap (λ ws. overwritten ws a new) r.image ∙ sym (ap (image_of w) (map_more text_line xs i d l) ∙ placed_more w lines line (a, new) (sym shape));
-      floor_is = sym (ap end_before (map_more text_line xs i d l) ∙ end_more lines line (a, new) (sym shape));
-      len = ap length e ∙ length-overwritten words a new inside ∙ r.len;
-    }
-
--- ---- one more line of a list
-
 pub reads_push : (w : ℕ) (lines : List TextLine) (line : TextLine) (words written : List ℕ) (floor a : ℕ) (new : List ℕ) → Reads w lines words floor
     → image_line line.1 ≡ Some (a, new) → a + length new ≤ w → floor ≤ a → written ≡ overwritten words a new → Reads w (lines ++ line ∷ []) written (a + length new)
 reads_push w lines line words written floor a new r shape fits rises e = record {
@@ -93,3 +77,11 @@ reads_push w lines line words written floor a new r shape fits rises e = record 
   where
     apart : IsMisplaced w (end_before lines) (a, new) → ⊥
     apart m = elim m [ inl h ↦ omega (arith, h, fits) | inr h ↦ omega (arith, h, r.floor_is, rises) ]
+
+pub reads_more : (w : ℕ) (xs : List Line) (i : ℕ) (d : Line) (words written : List ℕ) (floor a : ℕ) (new : List ℕ) → i < length xs → Reads w (text_lines (take i xs)) words floor
+    → Some (a, new) ≡ image_line (get_or xs i d).text.now → (IsMisplaced w floor (a, new) → ⊥) → written ≡ overwritten words a new
+    → Reads w (text_lines (take (i + 1) xs)) written (a + length new)
+reads_more w xs i d words written floor a new l r shape fits e =
+    let inside : a + length new ≤ w = elim (cases_lt w (a + length new)) [ inl lt ↦ absurd (fits (inl lt)) | inr le ↦ le ] in
+    let rises : floor ≤ a = elim (cases_lt a floor) [ inl lt ↦ absurd (fits (inr lt)) | inr le ↦ le ] in
+    rw (map_more text_line xs i d l) (reads_push w (text_lines (take i xs)) (text_line (get_or xs i d)) words written floor a new r (sym shape) inside rises e)

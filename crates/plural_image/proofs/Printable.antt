@@ -9,6 +9,7 @@ use Rattle.std.proofs.lemmas.List.Folds.{list_all-append}
 use Rattle.plural_bytes.specs.Lines.{tokens}
 use Rattle.plural_bytes.specs.Laws.{is_printable}
 use Rattle.plural_bytes.specs.Numerals.{value_of, are_digits, spelled}
+use Rattle.plural_bytes.proofs.Passing.{list_all_weaker}
 use Rattle.plural_bytes.proofs.Plain.{tokens_are_plain}
 use Rattle.plural_image.specs.Shape.{word_token, address_token, all_words, one_to_eight, line_of}
 use Rattle.plural_image.specs.Laws.{LinesArePlain}
@@ -30,10 +31,7 @@ digit_printable c h = elim (cases_lt c 128) [
 ]
 
 digits_printable : (t : List ℕ) → list_all (λ c. is_digit c 16) t ≡ true → list_all is_printable t ≡ true
-digits_printable [] h = refl
-digits_printable (c ∷ cs) h =
-    let p = and_parts (is_digit c 16) (list_all (λ c. is_digit c 16) cs) h in
-    and_from _ _ (digit_printable c p.0) (digits_printable cs p.1)
+digits_printable t h = list_all_weaker (λ c. is_digit c 16) is_printable digit_printable t h
 
 -- a choice that has a value was made by a test that holds
 chosen : {A : Type 0} (b : Bool) (o : Option A) (a : A) → cond b o None ≡ Some a → (b ≡ true) × (o ≡ Some a)

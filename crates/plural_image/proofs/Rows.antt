@@ -2,21 +2,17 @@
 use Rattle.std.proofs.Common.{◌≡◌, ℕ, zero, suc, ◌+◌, ◌*◌, ◌-◌, ◌/◌, ◌<◌, ◌≤◌, true, false, eqb, List, [], ◌∷◌, ◌++◌, length, take, drop, replicate, refl, ap, sym, ◌∙◌, arith, append_assoc, inl, inr}
 use Rattle.std.specs.Prelude.{flat_map, ◌==◌}
 use Rattle.std.specs.List.{list_all, range_with_len, AllByRecursion}
-use Rattle.std.proofs.lemmas.Bool.{cases_Bool, and_parts, eqb-true, lt-ltb, cond-true}
-use Rattle.std.proofs.lemmas.List.{take_at, drop_at, take_all, length-take, length-drop, take-append-drop, drop-drop, drop-replicate, append-nil, replicate-append-replicate, drop-take, take-take}
+use Rattle.std.proofs.Math.Seq.{take-add}
+use Rattle.std.proofs.lemmas.Bool.{cases_Bool, and_parts, eqb-true}
+use Rattle.std.proofs.lemmas.List.{take_at, drop_at, take_all, length-take, length-drop, drop-drop, drop-replicate, append-nil, replicate-append-replicate}
 use Rattle.plural_bytes.specs.Lines.{TextLine, pieces, content_from, content_lines}
 use Rattle.plural_bytes.specs.Faults.{IsFaultless}
 use Rattle.plural_image.specs.Image.{Breaks, overwritten, image_of}
 use Rattle.plural_image.specs.Print.{row_text, row_lines, image_text}
 use Rattle.plural_image.proofs.Imaged.{Reads, reads_nothing, reads_push}
-use Rattle.plural_image.proofs.Again.{row_back, row_content, inner_row, pieces_cons}
+use Rattle.plural_image.proofs.Again.{row_back, row_first}
 
 -- ---- lists
-
-take_add : (n m : ℕ) (xs : List ℕ) → take (n + m) xs ≡ take n xs ++ take m (drop n xs)
-take_add n m xs =
-    let t : take n (take (n + m) xs) ≡ take n xs = take-take n (n + m) xs (omega arith) in
-    sym (take-append-drop n (take (n + m) xs)) ∙ rw (t, drop-take n m xs) refl
 
 all_zero : (xs : List ℕ) → list_all (λ w. w == 0) xs ≡ true → xs ≡ replicate (length xs) 0
 all_zero [] h = refl
@@ -44,7 +40,7 @@ so_far_written w words k n h =
     let l = length_row words k inside in
     let d : drop (k + 8) (take k words ++ z) ≡ replicate (w - (k + 8)) 0 =
     sym (drop-drop 8 k (take k words ++ z)) ∙ ap (drop 8) (drop_at (take k words) z k front) ∙ drop-replicate {X = ℕ} 8 (w - k) 0 ∙ ap (λ m. replicate m 0) (omega arith) in
-    rw (t, l, d) (ap (λ x. x ++ replicate (w - (k + 8)) 0) (take_add k 8 words) ∙ append_assoc (take k words) (row words k) (replicate (w - (k + 8)) 0))
+    rw (t, l, d) (ap (λ x. x ++ replicate (w - (k + 8)) 0) (take-add k 8 words) ∙ append_assoc (take k words) (row words k) (replicate (w - (k + 8)) 0))
 
 so_far_zero : (w : ℕ) (words : List ℕ) (k : ℕ) → length words ≡ w → k + 8 ≤ w → list_all (λ w. w == 0) (row words k) ≡ true → so_far w words (k + 8) ≡ so_far w words k
 so_far_zero w words k n h zero_row =
@@ -52,14 +48,9 @@ so_far_zero w words k n h zero_row =
     let r : row words k ≡ replicate 8 0 = all_zero (row words k) zero_row ∙ ap (λ m. replicate m 0) (length_row words k inside) in
     let split : replicate (w - k) 0 ≡ replicate 8 0 ++ replicate (w - (k + 8)) 0 =
     ap (λ m. replicate {A = ℕ} m 0) (omega arith) ∙ sym (replicate-append-replicate {A = ℕ} 8 (w - (k + 8)) 0) in
-    ap (λ x. x ++ replicate (w - (k + 8)) 0) (take_add k 8 words ∙ ap (λ x. take k words ++ x) r) ∙ append_assoc (take k words) (replicate 8 0) (replicate (w - (k + 8)) 0) ∙ ap (λ x. take k words ++ x) (sym split)
+    ap (λ x. x ++ replicate (w - (k + 8)) 0) (take-add k 8 words ∙ ap (λ x. take k words ++ x) r) ∙ append_assoc (take k words) (replicate 8 0) (replicate (w - (k + 8)) 0) ∙ ap (λ x. take k words ++ x) (sym split)
 
--- ---- the next line
-
-next_content : (n : ℕ) (a : ℕ) (ws : List ℕ) (rest : List ℕ) → length ws ≡ 8 → content_from n (pieces (row_text a ws ++ 10 ∷ rest)) ≡ (n, row_text a ws) ∷ content_from (n + 1) (pieces rest)
-next_content n a ws rest l =
-    let c = row_content a ws (omega (arith, l)) in
-    ap (content_from n) (pieces_cons (row_text a ws) rest (inner_row a ws)) ∙ rw c (cond-true _ _ _ (lt-ltb 0 (length (row_text a ws)) (omega arith)))
+-- ---- reading them
 
 -- what reading makes of the rows from one on
 pub record ReadsRows (w n : ℕ) (words : List ℕ) (before : List TextLine) (text : List ℕ) : Type 0 where
@@ -101,7 +92,7 @@ row_step w words m len small fit ih n r floor before e f reads z =
     let rest = ih (n + 1) (r + 1) (8 * r + length ws) (before ++ (n, row_text (8 * r) ws) ∷ []) (omega arith) (omega (arith, l)) one in
     let text : rows_text words r (suc m) ≡ row_text (8 * r) ws ++ 10 ∷ rows_text words (r + 1) m = rw z (append_assoc (row_text (8 * r) ws) (10 ∷ []) (rows_text words (r + 1) m)) in
     let lines : before ++ content_from n (pieces (rows_text words r (suc m))) ≡ (before ++ (n, row_text (8 * r) ws) ∷ []) ++ content_from (n + 1) (pieces (rows_text words (r + 1) m)) =
-    ap (λ t. before ++ content_from n (pieces t)) text ∙ ap (λ x. before ++ x) (next_content n (8 * r) ws (rows_text words (r + 1) m) l) ∙ sym (append_assoc before ((n, row_text (8 * r) ws) ∷ []) (content_from (n + 1) (pieces (rows_text words (r + 1) m)))) in
+    ap (λ t. before ++ content_from n (pieces t)) text ∙ ap (λ x. before ++ x) (row_first n (8 * r) ws (rows_text words (r + 1) m)) ∙ sym (append_assoc before ((n, row_text (8 * r) ws) ∷ []) (content_from (n + 1) (pieces (rows_text words (r + 1) m)))) in
     record { floor = rest.floor; reads = rw lines rest.reads }
 
 rows_read : (w : ℕ) (words : List ℕ) → length words ≡ w → w ≤ 1048576 → AllByRecursion (λ w. w < 4294967296) words → (m : ℕ) → Continues w words m

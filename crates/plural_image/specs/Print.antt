@@ -1,15 +1,7 @@
 -- The printed image.
-use Rattle.std.specs.Prelude.{ℕ, zero, suc, ◌+◌, ◌*◌, ◌/◌, ◌%◌, List, [], ◌∷◌, ◌++◌, take, drop, length, flat_map, nat_lt, if◌then◌else◌, ◌==◌}
+use Rattle.std.specs.Prelude.{ℕ, ◌*◌, ◌/◌, List, [], ◌∷◌, ◌++◌, take, drop, length, flat_map, if◌then◌else◌, ◌==◌}
 use Rattle.std.specs.List.{list_all, range_with_len}
-
--- The hexadecimal digit of a number below 16, in lower case.
-abbrev pub hex_digit : ℕ → ℕ
-hex_digit d = if nat_lt d 10 then 48 + d else 87 + d
-
--- The last k hexadecimal digits of a number.
-abbrev pub hex_text : ℕ → ℕ → List ℕ
-hex_text zero n = []
-hex_text (suc k) n = hex_text k (n / 16) ++ hex_digit (n % 16) ∷ []
+pub use Rattle.plural_bytes.specs.Hexadecimal.{hex_digit, hex_text}
 
 -- An address and words as a line: eight digits and a colon, then a space and eight digits for each word.
 abbrev pub row_text : ℕ → List ℕ → List ℕ

@@ -16,7 +16,8 @@ mod read;
 mod shape;
 
 pub use fault::{ImageError, ImageKind};
-pub use hexadecimal::{hex, word_of};
+pub use hexadecimal::word_of;
+pub use plural_bytes::hex;
 pub use print::print_image;
 pub use read::read_image;
 

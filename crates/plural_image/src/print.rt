@@ -2,10 +2,10 @@
 
 ghost use Rattle.std.specs.Prelude.{◌≡◌, ◌<◌, ◌≤◌, ◌%◌, ◌^◌, ◌++◌, ◌∷◌, length, flat_map, OnOk, IfOk, ◌==◌};
 ghost use Rattle.std.specs.List.{list_all};
-ghost use Rattle.plural_image.specs.Print.{hex_text, row_lines, image_text};
+ghost use Rattle.plural_bytes.specs.Hexadecimal.{hex_text};
+ghost use Rattle.plural_image.specs.Print.{row_lines, image_text};
 
-use crate::hexadecimal::hex;
-use plural_bytes::Memory;
+use plural_bytes::{Memory, hex};
 use std::alloc::Global;
 
 /// Puts a space and the digits of each word behind the text.
