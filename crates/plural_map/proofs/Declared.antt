@@ -1,26 +1,19 @@
 -- The order of tasks that depend on earlier ones alone is that of their declaration.
-use Rattle.std.proofs.Common.{◌≡◌, ℕ, zero, suc, ◌+◌, ◌<◌, ◌≤◌, Bool, true, false, cond, eqb, ltb, Some, None, Option, List, [], ◌∷◌, ◌++◌, length, get_or, refl, ap, sym, subst, ◌∙◌, inl, inr, arith}
-use Rattle.std.specs.Prelude.{◌⊎◌, ◌&&◌, ◌||◌, ◌==◌, not, slice_get, position}
-use Rattle.std.specs.List.{All, range_with_len, position_or_len}
+use Rattle.std.proofs.Common.{◌≡◌, ℕ, zero, suc, ◌+◌, ◌<◌, ◌≤◌, Bool, true, false, eqb, Some, None, List, [], ◌∷◌, ◌++◌, length, get_or, refl, ◌∙◌, inl, inr, arith}
+use Rattle.std.specs.Prelude.{◌⊎◌, ◌||◌, slice_get}
+use Rattle.std.specs.List.{range_with_len, position_or_len}
 use Rattle.std.specs.Option.{option_map_or}
 use Rattle.std.proofs.lemmas.Bool.{eqb-false, ne_eqb, lt-ltb}
 use Rattle.std.proofs.lemmas.Option.{slice_get_cases}
 use Rattle.std.proofs.lemmas.List.Elements.{All-weaker}
 use Rattle.std.proofs.lemmas.List.Sums.{position_or_len_is, list_all-from_AllPass}
 use Rattle.std.proofs.lemmas.List.FromFn.{get_or-range_with_len, length-range_with_len}
+use Rattle.plural_bytes.proofs.Ranges.{range_push}
 use Rattle.plural_map.specs.declared.outcome.Dep.{Dep}
 use Rattle.plural_map.specs.Value.{TaskValue}
-use Rattle.plural_map.specs.Order.{is_among, has_all_done, is_ready, next_ready, order_from, order_of, IsDeclaredInOrder, DeclaredOrder}
+use Rattle.plural_map.specs.Order.{is_among, has_all_done, is_ready, next_ready, order_from, IsDeclaredInOrder, DeclaredOrder}
 
 -- ---- the numbers from one on
-
--- One number more stands at the end.
-range_more : (a n : ℕ) → range_with_len a (suc n) ≡ range_with_len a n ++ (a + n) ∷ []
-range_more a zero = let e : a + 0 ≡ a = omega arith in rw e refl
-range_more a (suc n) = let e : (a + 1) + n ≡ a + suc n = omega arith in ap (λ xs. a ∷ xs) (range_more (a + 1) n ∙ rw e refl)
-
-pub range_push : (k : ℕ) → range_with_len 0 (k + 1) ≡ range_with_len 0 k ++ k ∷ []
-range_push k = let s : k + 1 ≡ suc k = omega arith in let z : 0 + k ≡ k = omega arith in rw s (range_more 0 k ∙ rw z refl)
 
 -- A number of the range is among its numbers.
 pub among_range : (a n t : ℕ) → a ≤ t → t < a + n → is_among t (range_with_len a n) ≡ true

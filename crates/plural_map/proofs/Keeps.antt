@@ -1,10 +1,9 @@
 -- One line without a fault after the other keeps the limits, and the map of the whole section has them all.
-use Rattle.std.proofs.Common.{◌≡◌, ℕ, zero, suc, ◌+◌, ◌%◌, ◌<◌, ◌≤◌, Bool, true, false, Some, None, Option, List, [], ◌∷◌, ◌++◌, length, map, sum, get_or, refl, ap, sym, subst, ◌∙◌, arith, eqb}
+use Rattle.std.proofs.Common.{◌≡◌, ℕ, ◌+◌, ◌%◌, ◌<◌, ◌≤◌, true, false, Some, None, Option, List, [], length, map, sum, get_or, refl, ap, subst, arith}
 use Rattle.std.specs.Prelude.{◌≢◌, ◌&&◌, ◌||◌, ◌==◌, not, ⊤, MatchOption, bytes_eq, nat_le, nat_lt, unwrap_or, is_none, option_map}
-use Rattle.std.specs.List.{All, AllPairs, range_with_len}
-use Rattle.std.specs.Option.{option_map_or, option_to_list}
-use Rattle.std.proofs.lemmas.Bool.{eqb-true, leb-false, ltb-false, leb-true}
-use Rattle.std.proofs.lemmas.List.Elements.{All-weaker}
+use Rattle.std.specs.List.{All, AllPairs}
+use Rattle.std.specs.Option.{option_map_or}
+use Rattle.std.proofs.lemmas.Bool.{eqb-true, leb-false, ltb-false, leb-true, both_ways, not-false, or_parts, and_parts}
 use Rattle.plural_regions.specs.declared.region.Region.{Region}
 use Rattle.plural_regions.specs.Bounds.{AllInside}
 use Rattle.plural_map.specs.declared.line.MapLine.{MapLine}
@@ -12,44 +11,21 @@ use Rattle.plural_map.specs.declared.line.MapLine.TheVariants as line
 use Rattle.plural_map.specs.declared.line.TaskKind.{TaskKind}
 use Rattle.plural_map.specs.declared.line.TaskKind.TheVariants as kind
 use Rattle.plural_map.specs.declared.outcome.Dep.{Dep}
-use Rattle.plural_map.specs.Value.{TaskValue, MapValue}
-use Rattle.plural_map.specs.Limits.{IsTask, IsMap, is_set_count}
-use Rattle.plural_map.specs.Order.{is_among, IsDeclaredInOrder}
+use Rattle.plural_map.specs.Value.{TaskValue}
+use Rattle.plural_map.specs.Limits.{IsMap, is_set_count}
+use Rattle.plural_map.specs.Order.{IsDeclaredInOrder}
 use Rattle.plural_map.specs.RegionOf.{region_of}
 use Rattle.plural_map.specs.Parts.{Parts, tasks_of, number_of, with_dep, with_region, with_line, nothing, whole, quota_of, is_dup}
 use Rattle.plural_map.specs.Rules.{has, has_task, has_dep, task_count, instance_count, is_between, is_out_of_place, is_out_of_range, is_misnamed, is_too_many, IsInsideAt}
 use Rattle.plural_map.proofs.Kept.{IsDeclared, task_from_declared, dep_added, region_added, length_all, quotas_all, names_all, declared_all, new_name_all, number_below}
 use Rattle.plural_map.proofs.Declared.{declared_order, among_range}
 
--- ---- tests
-
-both : {b : Bool} → b ≡ false → b ≡ true → ⊥
-both e f = cc
-
-not-false : (b : Bool) → not b ≡ false → b ≡ true
-not-false true e = refl
-not-false false e = absurd cc
-
-or-false-left : (a b : Bool) → (a || b) ≡ false → a ≡ false
-or-false-left true b e = absurd cc
-or-false-left false b e = refl
-
-or-false-right : (a b : Bool) → (a || b) ≡ false → b ≡ false
-or-false-right true b e = absurd cc
-or-false-right false b e = e
-
-and-left : (a b : Bool) → (a && b) ≡ true → a ≡ true
-and-left true b e = refl
-and-left false b e = absurd cc
-
-and-right : (a b : Bool) → (a && b) ≡ true → b ≡ true
-and-right true b e = e
-and-right false b e = absurd cc
+-- ---- numbers
 
 -- A number that is there and between two lies between them, whatever stands for none.
-between : (low high : ℕ) (n : Option ℕ) (d : ℕ) → is_between low high n ≡ true → (low ≤ unwrap_or n d) × (unwrap_or n d ≤ high)
+pub between : (low high : ℕ) (n : Option ℕ) (d : ℕ) → is_between low high n ≡ true → (low ≤ unwrap_or n d) × (unwrap_or n d ≤ high)
 between low high None d e = absurd cc
-between low high (Some n) d e = (leb-true low n (and-left (nat_le low n) (nat_le n high) e), leb-true n high (and-right (nat_le low n) (nat_le n high) e))
+between low high (Some n) d e = (leb-true low n (and_parts (nat_le low n) (nat_le n high) e).0, leb-true n high (and_parts (nat_le low n) (nat_le n high) e).1)
 
 -- ---- what is kept
 
@@ -101,11 +77,11 @@ kept_memory : (n : ℕ) (p : Parts) (w : Option ℕ) → IsKept n p → is_out_o
 kept_memory n p w k place range =
     let z : n ≡ 0 = eqb-true n 0 (not-false (n == 0) place) in
     let t = not-false (is_between 8 65536 w && unwrap_or w 0 % 8 == 0) range in
-    let b = between 8 65536 w 0 (and-left (is_between 8 65536 w) (unwrap_or w 0 % 8 == 0) t) in
+    let b = between 8 65536 w 0 (and_parts (is_between 8 65536 w) (unwrap_or w 0 % 8 == 0) t).0 in
     let none : p.earlier ≡ [] = k.no_earlier (omega arith) in
     let nil : length p.earlier ≡ 0 = ap length none in
     record {
-      words = λ h. record { low = b.0; high = b.1; even = eqb-true (unwrap_or w 0 % 8) 0 (and-right (is_between 8 65536 w) (unwrap_or w 0 % 8 == 0) t) };
+      words = λ h. record { low = b.0; high = b.1; even = eqb-true (unwrap_or w 0 % 8) 0 (and_parts (is_between 8 65536 w) (unwrap_or w 0 % 8 == 0) t).1 };
       shape = λ h. absurd (omega arith);
       no_earlier = λ h. none;
       no_current = λ h. k.no_current (omega arith);
@@ -121,10 +97,10 @@ kept_cache : (n : ℕ) (p : Parts) (s w : Option ℕ) → IsKept n p → is_out_
 kept_cache n p s w k place range =
     let z : n ≡ 1 = eqb-true n 1 (not-false (n == 1) place) in
     let t = not-false (option_map_or is_set_count s false && is_between 1 4 w) range in
-    let b = between 1 4 w 0 (and-right (option_map_or is_set_count s false) (is_between 1 4 w) t) in
+    let b = between 1 4 w 0 (and_parts (option_map_or is_set_count s false) (is_between 1 4 w) t).1 in
     record {
       words = λ h. k.words (omega arith);
-      shape = λ h. record { known = sets_there s (and-left (option_map_or is_set_count s false) (is_between 1 4 w) t); low = b.0; high = b.1 };
+      shape = λ h. record { known = sets_there s (and_parts (option_map_or is_set_count s false) (is_between 1 4 w) t).0; low = b.0; high = b.1 };
       no_earlier = λ h. absurd (omega arith);
       no_current = λ h. absurd (omega arith);
       few = k.few;
@@ -149,19 +125,19 @@ kept_task : (labels : List (List ℕ)) (n : ℕ) (p : Parts) (name : List ℕ) (
 kept_task labels n p name tk entry budget k place range misnamed many =
     let low : 2 ≤ n = ltb-false n 2 place in
     let t = not-false (is_between 1 16384 (quota_of tk) && is_between 1 100000000 budget) range in
-    let q = between 1 16384 (quota_of tk) 0 (and-left (is_between 1 16384 (quota_of tk)) (is_between 1 100000000 budget) t) in
-    let b = between 1 100000000 budget 0 (and-right (is_between 1 16384 (quota_of tk)) (is_between 1 100000000 budget) t) in
+    let q = between 1 16384 (quota_of tk) 0 (and_parts (is_between 1 16384 (quota_of tk)) (is_between 1 100000000 budget) t).0 in
+    let b = between 1 100000000 budget 0 (and_parts (is_between 1 16384 (quota_of tk)) (is_between 1 100000000 budget) t).1 in
     let here = option_map_or (λ (t : TaskValue). bytes_eq t.name name) p.current false in
-    let new = or-false-left (has_task p.earlier name || here) (not (has labels entry)) misnamed in
+    let new = (or_parts (has_task p.earlier name || here) (not (has labels entry)) misnamed).0 in
     record {
       words = λ h. k.words (omega arith);
       shape = λ h. k.shape (omega arith);
       no_earlier = λ h. absurd (omega arith);
       no_current = λ h. absurd (omega arith);
-      few = omega (arith, length_all p.earlier p.current, leb-false 64 (task_count p) (or-false-left (nat_le 64 (task_count p)) (nat_lt 65536 (instance_count p + unwrap_or (quota_of tk) 0)) many));
-      quotas = omega (arith, quotas_all p.earlier p.current, ltb-false 65536 (instance_count p + unwrap_or (quota_of tk) 0) (or-false-right (nat_le 64 (task_count p)) (nat_lt 65536 (instance_count p + unwrap_or (quota_of tk) 0)) many));
+      few = omega (arith, length_all p.earlier p.current, leb-false 64 (task_count p) (or_parts (nat_le 64 (task_count p)) (nat_lt 65536 (instance_count p + unwrap_or (quota_of tk) 0)) many).0);
+      quotas = omega (arith, quotas_all p.earlier p.current, ltb-false 65536 (instance_count p + unwrap_or (quota_of tk) 0) (or_parts (nat_le 64 (task_count p)) (nat_lt 65536 (instance_count p + unwrap_or (quota_of tk) 0)) many).1);
       names = names_all p.earlier p.current k.names k.new_name;
-      new_name = new_name_all name p.earlier p.current (or-false-left (has_task p.earlier name) here new) (or-false-right (has_task p.earlier name) here new);
+      new_name = new_name_all name p.earlier p.current (or_parts (has_task p.earlier name) here new).0 (or_parts (has_task p.earlier name) here new).1;
       earlier = declared_all p.words p.earlier p.current k.earlier k.current;
       current = record {
         quota_low = q.0;
@@ -173,17 +149,17 @@ kept_task labels n p name tk entry budget k place range misnamed many =
         before = λ i d h. absurd (omega arith);
         deps_differ = λ i j d l h. absurd (omega arith);
         few_regions = omega arith;
-        inside = λ i a h m. absurd (both refl m);
+        inside = λ i a h m. absurd (both_ways false refl m);
       };
     }
 
 kept_after : (labels : List (List ℕ)) (n : ℕ) (p : Parts) (name : List ℕ) (when : _) → IsKept n p → is_out_of_place n p (line.After name when) ≡ false → is_misnamed labels p (line.After name when) ≡ false → is_too_many p (line.After name when) ≡ false
     → IsKept (n + 1) (with_line p (line.After name when))
 kept_after labels n p name when k place misnamed many =
-    let low : 2 ≤ n = ltb-false n 2 (or-false-left (nat_lt n 2) (is_none p.current) place) in
+    let low : 2 ≤ n = ltb-false n 2 (or_parts (nat_lt n 2) (is_none p.current) place).0 in
     let number = number_of name p.earlier in
-    let named : has_task p.earlier name ≡ true = not-false (has_task p.earlier name) (or-false-left (not (has_task p.earlier name)) (option_map_or (has_dep number) p.current false) misnamed) in
-    let new = or-false-right (not (has_task p.earlier name)) (option_map_or (has_dep number) p.current false) misnamed in
+    let named : has_task p.earlier name ≡ true = not-false (has_task p.earlier name) (or_parts (not (has_task p.earlier name)) (option_map_or (has_dep number) p.current false) misnamed).0 in
+    let new = (or_parts (not (has_task p.earlier name)) (option_map_or (has_dep number) p.current false) misnamed).1 in
     record {
       words = λ h. k.words (omega arith);
       shape = λ h. k.shape (omega arith);
@@ -220,7 +196,7 @@ kept_after labels n p name when k place misnamed many =
 kept_region : (n : ℕ) (p : Parts) (mode : _) (base stride count : Option ℕ) → IsKept n p → is_out_of_place n p (line.Region mode base stride count) ≡ false → is_too_many p (line.Region mode base stride count) ≡ false
     → IsInsideAt p (line.Region mode base stride count) → IsKept (n + 1) (with_line p (line.Region mode base stride count))
 kept_region n p mode base stride count k place many inside =
-    let low : 2 ≤ n = ltb-false n 2 (or-false-left (nat_lt n 2) (is_none p.current) place) in
+    let low : 2 ≤ n = ltb-false n 2 (or_parts (nat_lt n 2) (is_none p.current) place).0 in
     record {
       words = λ h. k.words (omega arith);
       shape = λ h. k.shape (omega arith);

@@ -1,13 +1,13 @@
 -- What lines without a fault keep: all limits of the map so far.
-use Rattle.std.proofs.Common.{◌≡◌, ℕ, zero, suc, ◌+◌, ◌%◌, ◌<◌, ◌≤◌, Bool, true, false, Some, None, Option, List, [], ◌∷◌, ◌++◌, length, map, sum, get_or, refl, ap, sym, subst, ◌∙◌, ⊎_elim, arith, eqb}
-use Rattle.std.specs.Prelude.{◌≢◌, ◌&&◌, ◌||◌, ◌==◌, not, ⊤, MatchOption, bytes_eq, nat_le, nat_lt, unwrap_or, is_none}
-use Rattle.std.specs.List.{All, AllPairs, list_any, position_or_len, prefix_len}
+use Rattle.std.proofs.Common.{◌≡◌, ℕ, suc, ◌+◌, ◌<◌, ◌≤◌, Bool, true, false, Some, None, Option, List, [], ◌∷◌, ◌++◌, length, map, sum, get_or, refl, ap, sym, subst, ◌∙◌, ⊎_elim, arith}
+use Rattle.std.specs.Prelude.{◌≢◌, ◌||◌, ◌==◌, ⊤, MatchOption, bytes_eq, nat_le}
+use Rattle.std.specs.List.{All, AllPairs, list_any}
 use Rattle.std.specs.Option.{option_map_or, option_to_list}
 use Rattle.std.proofs.Math.Bool.{or-false}
-use Rattle.std.proofs.lemmas.Bool.{cases_lt, eqb-false, eqb-true, leb-false, ltb-false, leb-true}
+use Rattle.std.proofs.lemmas.Bool.{cases_lt, eqb-false, leb-false, both_ways}
 use Rattle.std.proofs.lemmas.Bool.Decides.{not_from_Decides}
 use Rattle.std.proofs.lemmas.Slice.Eq.{bytes_eq-Decides}
-use Rattle.std.proofs.lemmas.List.{length_push, get_or_at, get_or_append_left, append-nil, length-append, map-append}
+use Rattle.std.proofs.lemmas.List.{length_push, get_or_at, get_or_append_left, append-nil, length-append}
 use Rattle.std.proofs.lemmas.List.Elements.{All-push, All-weaker}
 use Rattle.std.proofs.lemmas.List.Quantifiers.{all_pairs_push}
 use Rattle.std.proofs.lemmas.List.Folds.{list_any_at, list_any-append}
@@ -18,22 +18,19 @@ use Rattle.plural_regions.specs.Bounds.{AllInside}
 use Rattle.plural_regions.proofs.Regions.{in_from_test}
 use Rattle.plural_map.specs.declared.outcome.Dep.{Dep}
 use Rattle.plural_map.specs.declared.outcome.When.{When}
-use Rattle.plural_map.specs.Value.{TaskValue, MapValue}
-use Rattle.plural_map.specs.Limits.{IsTask, IsMap, is_set_count}
-use Rattle.plural_map.specs.Parts.{Parts, tasks_of, number_of, with_dep, with_region, nothing, whole}
-use Rattle.plural_map.specs.Rules.{has_task, has_dep, task_count, instance_count}
+use Rattle.plural_map.specs.Value.{TaskValue}
+use Rattle.plural_map.specs.Limits.{IsTask}
+use Rattle.plural_map.specs.Parts.{number_of, with_dep, with_region}
+use Rattle.plural_map.specs.Rules.{has_task, has_dep}
 
 -- ---- tests
-
-both : {b : Bool} → b ≡ false → b ≡ true → ⊥
-both e f = cc
 
 -- Where a test passes at no element, it fails at each.
 pub none_from_any : {X : Type 0} (p : X → Bool) (xs : List X) → list_any p xs ≡ false → All (λ x. p x ≡ false) xs
 none_from_any {X = X} p xs e = λ k d h. by_test k d h (p (get_or xs k d)) refl
   where
     by_test : (k : ℕ) (d : X) → k < length xs → (b : Bool) → p (get_or xs k d) ≡ b → p (get_or xs k d) ≡ false
-    by_test k d h true f = absurd (both e (list_any_at p xs k d h f))
+    by_test k d h true f = absurd (both_ways _ e (list_any_at p xs k d h f))
     by_test k d h false f = f
 
 -- Two texts that the test tells apart differ.

@@ -1,15 +1,16 @@
 -- The order of the tasks: each number in it was ready among those before it.
-use Rattle.std.proofs.Common.{◌≡◌, ℕ, zero, suc, ◌<◌, ◌≤◌, Bool, true, false, Some, None, Option, List, [], ◌∷◌, ◌++◌, length, get_or, take, refl, ap, ◌∙◌, subst, ⊎_elim, arith}
-use Rattle.std.specs.Prelude.{◌&&◌, ◌||◌, ◌==◌, slice_get, not, slice_index, is_some}
-use Rattle.std.specs.List.{range_with_len, list_all}
+use Rattle.std.proofs.Common.{◌≡◌, ℕ, zero, suc, ◌<◌, ◌≤◌, true, false, Some, None, Option, List, [], ◌∷◌, ◌++◌, length, get_or, take, refl, ap, ◌∙◌, subst, ⊎_elim, arith}
+use Rattle.std.specs.Prelude.{◌||◌, ◌==◌, slice_get, not, slice_index, is_some}
+use Rattle.std.specs.List.{range_with_len}
 use Rattle.std.specs.Option.{option_map_or}
 use Rattle.std.proofs.lemmas.List.{length_push, get_or_at, get_or_append_left, take-append-le, take_at}
 use Rattle.std.proofs.lemmas.Option.{slice_get_within, get_or_from_slice_get}
 use Rattle.std.proofs.Math.Bool.{or-false}
-use Rattle.std.proofs.lemmas.Bool.{cases_lt, eq-eqb}
+use Rattle.std.proofs.lemmas.Bool.{cases_lt, eq-eqb, and_parts, or_right, not-true}
 use Rattle.std.proofs.lemmas.List.Folds.{list_any-append}
 use Rattle.std.proofs.lemmas.List.FromFn.{get_or-range_with_len, length-range_with_len}
 use Rattle.std.proofs.lemmas.List.Quantifiers.{position-Some}
+use Rattle.plural_bytes.proofs.Passing.{list_all_weaker}
 use Rattle.plural_map.specs.declared.outcome.Outcome.{Outcome}
 use Rattle.plural_map.specs.Value.{TaskValue}
 use Rattle.plural_map.specs.Decisions.{outcome_at, HasPredecessors}
@@ -17,29 +18,13 @@ use Rattle.plural_map.specs.Order.{is_among, has_all_done, is_ready, next_ready,
 
 -- ---- what it is to be ready
 
-both-left : (a b : Bool) → (a && b) ≡ true → a ≡ true
-both-left true b e = refl
-both-left false b e = absurd cc
-
-both-right : (a b : Bool) → (a && b) ≡ true → b ≡ true
-both-right true b e = e
-both-right false b e = absurd cc
-
-or-right : (a b : Bool) → b ≡ true → (a || b) ≡ true
-or-right true b e = refl
-or-right false b e = e
-
-not-true : (b : Bool) → not b ≡ true → b ≡ false
-not-true true e = absurd cc
-not-true false e = refl
-
 -- A number that is ready isn't among those done.
 pub ready_new : (tasks : List TaskValue) (done : List ℕ) (t : ℕ) → is_ready tasks done t ≡ true → is_among t done ≡ false
-ready_new tasks done t r = not-true _ (both-left _ _ r)
+ready_new tasks done t r = not-true _ (and_parts _ _ r).0
 
 -- A number that is ready is that of a task all of whose dependencies are among those done.
 pub ready_task : (tasks : List TaskValue) (done : List ℕ) (t : ℕ) → is_ready tasks done t ≡ true → (task : TaskValue) × (slice_get tasks t ≡ Some task) × (has_all_done done task ≡ true)
-ready_task tasks done t r = by_task (slice_get tasks t) refl (both-right (not (is_among t done)) _ r)
+ready_task tasks done t r = by_task (slice_get tasks t) refl (and_parts (not (is_among t done)) _ r).1
   where
     by_task : (o : Option TaskValue) → slice_get tasks t ≡ o → option_map_or (has_all_done done) o false ≡ true → (task : TaskValue) × (slice_get tasks t ≡ Some task) × (has_all_done done task ≡ true)
     by_task None e h = absurd cc
@@ -102,16 +87,11 @@ order_new tasks i h = ready_new tasks (take i (order_of tasks)) (slice_index (or
 
 -- ---- numbers among those done
 
--- A test that passes wherever another does passes at all elements of a list where the other does.
-pub list_all_weaker : {X : Type 0} (p q : X → Bool) (xs : List X) → ((x : X) → p x ≡ true → q x ≡ true) → list_all p xs ≡ true → list_all q xs ≡ true
-list_all_weaker p q [] h a = refl
-list_all_weaker p q (x ∷ xs) h a = rw (h x (both-left (p x) (list_all p xs) a), list_all_weaker p q xs h (both-right (p x) (list_all p xs) a)) refl
-
 -- The element at a place of a list is among its elements.
 pub among_at : (done : List ℕ) (i : ℕ) → i < length done → is_among (get_or done i 0) done ≡ true
 among_at [] i h = absurd (omega arith)
 among_at (u ∷ done) zero h = ap (λ b. b || is_among u done) (eq-eqb u u refl)
-among_at (u ∷ done) (suc i) h = or-right (u == get_or done i 0) (is_among (get_or done i 0) done) (among_at done i (omega arith))
+among_at (u ∷ done) (suc i) h = or_right (u == get_or done i 0) (is_among (get_or done i 0) done) (among_at done i (omega arith))
 
 -- A number is among those done and one more where it is among those done or is that one.
 pub among_push : (done : List ℕ) (t u : ℕ) → is_among u (done ++ t ∷ []) ≡ (is_among u done || (t == u))
@@ -123,4 +103,4 @@ pub predecessors_done : (tasks : List TaskValue) (done : List ℕ) (t : ℕ) (d 
 predecessors_done tasks done t d outcomes r all =
     let h = ready_task tasks done t r in
     let e : get_or tasks t d ≡ h.0 = get_or_from_slice_get tasks t h.0 d h.1 in
-    rw e (list_all_weaker (λ p. is_among p.task done) (λ p. is_some (outcome_at outcomes p.task)) h.0.deps (λ p. all p.task) h.2)
+    rw e (list_all_weaker (λ p. is_among p.task done) (λ p. is_some (outcome_at outcomes p.task)) (λ p. all p.task) h.0.deps h.2)

@@ -1,5 +1,6 @@
 -- The verdict on one line.
-use Rattle.std.proofs.Common.{◌≡◌, ℕ, ◌<◌, ◌≤◌, Bool, true, false, Some, None, Option, List, sym, ◌∙◌, arith}
+use Rattle.std.proofs.Common.{◌≡◌, ℕ, ◌<◌, ◌≤◌, false, Some, None, Option, List, arith}
+use Rattle.std.proofs.lemmas.Bool.{both_ways}
 use Rattle.plural_regions.specs.declared.region.Region.{Region}
 use Rattle.plural_regions.specs.Bounds.{AllInside, IsLeastOutside}
 use Rattle.plural_map.specs.declared.line.MapLine.{MapLine}
@@ -32,15 +33,11 @@ not_outside p (line.Region mode base stride count) k i o = by_task p.current i o
     by_task None i o = o
     by_task (Some t) i o = inside_has_none (region_of mode base stride count) t.quota p.words k i o
 
--- No test answers both.
-both : {b : Bool} → b ≡ false → b ≡ true → ⊥
-both e f = cc
-
 -- A line that passes all tests has no fault.
 pub no_kind : (labels : List (List ℕ)) (n : ℕ) (p : Parts) (s : MapLine) → is_out_of_place n p s ≡ false → is_out_of_range s ≡ false → is_misnamed labels p s ≡ false → is_too_many p s ≡ false → IsInsideAt p s
     → (k : MapKind) → HasKind labels n p s k → ⊥
-no_kind labels n p s a b c d i kinds.Form h = both a h
-no_kind labels n p s a b c d i kinds.Number h = both b h
-no_kind labels n p s a b c d i kinds.Name h = both c h
-no_kind labels n p s a b c d i kinds.Count h = both d h
+no_kind labels n p s a b c d i kinds.Form h = both_ways _ a h
+no_kind labels n p s a b c d i kinds.Number h = both_ways _ b h
+no_kind labels n p s a b c d i kinds.Name h = both_ways _ c h
+no_kind labels n p s a b c d i kinds.Count h = both_ways _ d h
 no_kind labels n p s a b c d i (kinds.Outside k) h = not_outside p s k i h

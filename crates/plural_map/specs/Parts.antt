@@ -1,5 +1,5 @@
 -- The map that map lines spell.
-use Rattle.std.specs.Prelude.{ℕ, ◌+◌, Bool, true, false, List, [], ◌∷◌, ◌++◌, Option, Some, None, fold, length, bytes_eq, unwrap_or, option_map}
+use Rattle.std.specs.Prelude.{ℕ, Bool, true, false, List, [], ◌∷◌, ◌++◌, Option, Some, None, fold, bytes_eq, unwrap_or, option_map}
 use Rattle.std.specs.Option.{option_map_or, option_to_list}
 use Rattle.std.specs.List.{position_or_len}
 use Rattle.plural_bytes.specs.Lines.{TextLine}

@@ -1,5 +1,5 @@
 -- The faults of map lines: which kinds a line has, by the lines before it.
-use Rattle.std.specs.Prelude.{◌≡◌, ℕ, ◌+◌, ◌%◌, ◌≤◌, Bool, true, false, not, ◌||◌, ◌&&◌, List, [], ◌∷◌, ◌++◌, Option, Some, None, MatchOption, length, map, sum, is_none, nat_le, nat_lt, bytes_eq, ◌==◌, unwrap_or, ⊤}
+use Rattle.std.specs.Prelude.{◌≡◌, ℕ, ◌+◌, ◌%◌, ◌≤◌, Bool, true, false, not, ◌||◌, ◌&&◌, List, [], ◌∷◌, ◌++◌, Option, Some, MatchOption, length, map, sum, is_none, nat_le, nat_lt, bytes_eq, ◌==◌, unwrap_or, ⊤}
 use Rattle.std.specs.List.{list_any}
 use Rattle.std.specs.Option.{option_map_or}
 use Rattle.plural_bytes.specs.Lines.{TextLine}
@@ -15,7 +15,7 @@ use Rattle.plural_map.specs.Value.{TaskValue}
 use Rattle.plural_map.specs.Shape.{shape_of}
 use Rattle.plural_map.specs.RegionOf.{region_of}
 use Rattle.plural_map.specs.Limits.{is_set_count}
-use Rattle.plural_map.specs.Parts.{Parts, tasks_of, number_of, quota_of, parts_of}
+use Rattle.plural_map.specs.Parts.{Parts, number_of, quota_of, parts_of}
 
 -- 1: the line stands in another's place: `memory` is the first, `cache` the second, the others follow, and `after`,
 -- `read` and `write` come after some task. The section has at least two lines.

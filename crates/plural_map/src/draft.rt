@@ -10,8 +10,10 @@ ghost use Rattle.plural_map.specs.Parts.{quota_of, is_dup, number_of, with_line,
 ghost use Rattle.plural_map.specs.Rules.{has, has_task, has_dep, is_between, is_out_of_place, is_out_of_range, is_misnamed, is_too_many, IsOutsideAt, IsInsideAt, IsVerdict, task_count, instance_count};
 ghost use Rattle.plural_map.specs.Drafts.{draft_parts};
 
+use crate::counts::is_between;
 use crate::fault::MapKind;
 use crate::line::{MapLine, TaskKind};
+use crate::lookup::{has_task, number_of};
 use crate::outcome::Dep;
 use crate::task::Task;
 use arrayvec::ArrayVec;
@@ -31,35 +33,10 @@ pub(crate) struct Draft {
     pub current: Option<Task>,
 }
 
-fn is_same(a: &Name, b: &Name) -> bool
-    ensures { result ≡ bytes_eq a.now b.now }
-{
-    a.bytes() == b.bytes()
-}
-
 fn has(list: &[Name], name: &Name) -> bool
     ensures { result ≡ has list.now name.now }
 {
-    list.iter().any(|x| is_same(x, name))
-}
-
-fn has_task(tasks: &[Task], name: &Name) -> bool
-    ensures { result ≡ has_task tasks.now name.now }
-{
-    tasks.iter().any(|t| is_same(t.name(), name))
-}
-
-fn position_named(tasks: &[Task], name: &Name) -> Option<usize>
-    ensures { result ≡ position (λ t. bytes_eq t.name name.now) tasks.now }
-{
-    tasks.iter().position(|t| is_same(t.name(), name))
-}
-
-fn number_of(tasks: &[Task], name: &Name) -> usize
-    ensures number { result ≡ number_of name.now tasks.now }
-    ensures bound { result ≤ length tasks.now }
-{
-    position_named(tasks, name).unwrap_or(tasks.len())
+    list.iter().any(|x| x == name)
 }
 
 fn quota_sum(tasks: &[Task]) -> u64
@@ -82,15 +59,6 @@ fn is_dup(kind: TaskKind) -> bool
     ensures { result ≡ is_dup kind }
 {
     matches!(kind, TaskKind::Dup { .. })
-}
-
-fn is_between(low: u32, high: u32, n: Option<u32>) -> bool
-    ensures { result ≡ is_between low high n }
-{
-    match n {
-        None => false,
-        Some(n) => low <= n && n <= high,
-    }
 }
 
 fn is_set_count(sets: u32) -> bool
@@ -164,7 +132,7 @@ fn names_current(draft: &Draft, name: &Name) -> bool
 {
     match &draft.current {
         None => false,
-        Some(task) => is_same(task.name(), name),
+        Some(task) => task.name() == name,
     }
 }
 

@@ -9,11 +9,13 @@
 //! machine, the shared words and the synchroniser stand on it.
 #![tactic(auto)]
 
+mod counts;
 mod decisions;
 mod draft;
 mod fault;
 pub mod laws;
 mod line;
+mod lookup;
 mod map;
 mod outcome;
 mod printing;
@@ -21,12 +23,14 @@ mod read;
 mod shape;
 mod task;
 
+pub use counts::{counted, is_between};
 pub use decisions::decide;
 pub use fault::{MapError, MapKind};
 pub use line::{MapLine, TaskKind};
+pub use lookup::{has_task, number_of};
 pub use map::Map;
 pub use outcome::{Decision, Dep, Outcome, When};
-pub use printing::print;
+pub use printing::{print, put_name_at};
 pub use read::parse;
 pub use task::Task;
 

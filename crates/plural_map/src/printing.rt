@@ -1,29 +1,13 @@
 //! The canonical lines of a map.
-ghost use Rattle.std.specs.Prelude.{◌≡◌, ◌++◌, flat_map, OnOk, IfOk};
-ghost use Rattle.std.specs.Fmt.{decimal};
+ghost use Rattle.std.specs.Prelude.{◌≡◌, ◌++◌, flat_map, OnOk, OnErr, IfOk};
 ghost use Rattle.plural_map.specs.Print.{task_line, kind_text, name_at, when_text, mode_text, join_text, dep_text, region_text, task_text, map_text};
 
 use crate::map::Map;
 use crate::outcome::{Dep, When};
 use crate::task::Task;
-use plural_bytes::Memory;
+use plural_bytes::{Memory, put, put_number};
 use plural_regions::{Mode, Region};
 use std::alloc::Global;
-
-fn put(out: &mut Vec<u8>, text: &[u8]) -> Result<(), Memory>
-    ensures { OnOk result (out.new.items ≡ out.old.items ++ text.now) }
-{
-    out.extend_from_slice(text)?;
-    Ok(())
-}
-
-fn put_number(out: &mut Vec<u8>, alloc: Global, n: u32) -> Result<(), Memory>
-    ensures { OnOk result (out.new.items ≡ out.old.items ++ decimal n) }
-{
-    let text = n.to_string(alloc)?;
-    out.extend_from_slice(text.as_bytes())?;
-    Ok(())
-}
 
 fn when_text(when: When) -> &'static [u8]
     ensures { result.now ≡ when_text when }
@@ -70,8 +54,10 @@ fn put_task_line(out: &mut Vec<u8>, alloc: Global, task: &Task) -> Result<(), Me
     Ok(())
 }
 
-fn put_name_at(out: &mut Vec<u8>, tasks: &[Task], t: u32) -> Result<(), Memory>
-    ensures { OnOk result (out.new.items ≡ out.old.items ++ name_at tasks.now t) }
+/// Puts the name of the task of a number behind what `out` has; nothing where no task has the number.
+pub fn put_name_at(out: &mut Vec<u8>, tasks: &[Task], t: u32) -> Result<(), Memory>
+    ensures ok { OnOk result (out.new.items ≡ out.old.items ++ name_at tasks.now t) }
+    ensures err { OnErr result (out.new.items ≡ out.old.items) }
 {
     match tasks.get(t as usize) {
         None => Ok(()),

@@ -1,28 +1,13 @@
 //! A map line by its tokens.
-ghost use Rattle.std.specs.Prelude.{◌≡◌, ◌<◌, ◌≤◌, ◌^◌, bytes_eq};
+ghost use Rattle.std.specs.Prelude.{◌≡◌};
 ghost use Rattle.plural_bytes.specs.Lines.{tokens};
-ghost use Rattle.plural_map.specs.Shape.{counted, when_of, memory_line, cache_line, task_end, dup_task, task_line, after_line, region_line, shape_of};
+ghost use Rattle.plural_map.specs.Shape.{when_of, memory_line, cache_line, task_end, dup_task, task_line, after_line, region_line, shape_of};
 
+use crate::counts::counted;
 use crate::line::{MapLine, TaskKind};
 use crate::outcome::When;
-use plural_bytes::{Name, NumberError, next_token, number};
+use plural_bytes::{Name, is_word, next_token};
 use plural_regions::Mode;
-
-fn counted(text: &[u8]) -> Option<Option<u32>>
-    ensures { result ≡ counted text.now }
-{
-    match number(text, 4_294_967_295) {
-        Err(NumberError::Form) => None,
-        Err(NumberError::Range) => Some(None),
-        Ok(n) => Some(Some(n as u32)),
-    }
-}
-
-fn is_word(text: &[u8], word: &[u8]) -> bool
-    ensures { result ≡ bytes_eq text.now word.now }
-{
-    text == word
-}
 
 fn when_of(text: &[u8]) -> Option<When>
     ensures { result ≡ when_of text.now }

@@ -9,6 +9,7 @@ use Rattle.std.proofs.lemmas.List.Folds.{list_any_at}
 use Rattle.plural_bytes.specs.Lines.{TextLine, pieces, content_from, content_lines}
 use Rattle.plural_bytes.specs.Faults.{IsFaultless}
 use Rattle.plural_bytes.specs.Names.{is_name}
+use Rattle.plural_bytes.proofs.Tokens.{is_token, joined, tokens_joined, line_next}
 use Rattle.plural_regions.specs.declared.region.Region.{Region}
 use Rattle.plural_regions.specs.Rights.{is_in}
 use Rattle.plural_regions.specs.Bounds.{AllInside}
@@ -23,11 +24,12 @@ use Rattle.plural_map.specs.Parts.{Parts, number_of, nothing, with_line, whole, 
 use Rattle.plural_map.specs.Print.{line_text, name_at, when_text, mode_text, task_line, dep_text, join_text, region_text, task_text, map_text}
 use Rattle.plural_map.specs.Rules.{Breaks, closed, has, has_task, has_dep, task_count, instance_count}
 use Rattle.plural_map.proofs.Kept.{length_all, quotas_all}
+use Rattle.plural_map.proofs.Reading.{Reads, IsFine, reads_nothing, reads_push, closed_faultless}
+use Rattle.plural_map.proofs.Named.{Differ, AreNamed, name_before, has_at, number_at, named_at}
 use Rattle.plural_reread.specs.Laws.{IsSpelledRegion, IsSpelledTask, IsVersion1, MapAgain}
-use Rattle.plural_reread.proofs.Tokens.{is_token, joined, tokens_joined, line_next}
-use Rattle.plural_reread.proofs.Steps.{Reads, IsFine, Leads, reads_nothing, reads_push, closed_reads, no_step, two_steps, line_step}
+use Rattle.plural_reread.proofs.Steps.{Leads, no_step, two_steps, line_step}
 use Rattle.plural_reread.proofs.Shapes.{line_joined, memory_all, memory_shape, cache_all, cache_shape, sets_small, kind_of, dup_back, quota_back, task_tokens, task_joined, task_all, task_shape, after_all, after_shape, region_all, region_shape}
-use Rattle.plural_reread.proofs.Found.{Differ, AreNamed, pairs_before, name_before, has_at, number_at, named_at, new_name, name_apart, new_dep, quotas_below, region_back}
+use Rattle.plural_reread.proofs.Found.{pairs_before, new_name, name_apart, new_dep, quotas_below, region_back}
 
 -- ---- a task of the map
 
@@ -238,7 +240,7 @@ whole_is m earlier current limits e =
 -- Lines that spell the parts behind all tasks of the map spell the map.
 ends_again : (m : MapValue) (labels : List (List ℕ)) (end : ℕ) (lines : List TextLine) (earlier : List TaskValue) (current : Option TaskValue) → IsMap m → m.tasks ≡ earlier ++ option_to_list current → 2 ≤ length lines
     → Reads labels lines (behind m earlier current) → IsFaultless (Breaks labels) (closed lines end) × (map_of lines ≡ m)
-ends_again m labels end lines earlier current limits e low r = (closed_reads labels lines end (behind m earlier current) r low, ap whole (sym r.value) ∙ whole_is m earlier current limits e)
+ends_again m labels end lines earlier current limits e low r = (closed_faultless labels lines end r.faultless low, ap whole (sym r.value) ∙ whole_is m earlier current limits e)
 
 shaped : (t : List ℕ) (ts : List (List ℕ)) → list_all is_token (t ∷ ts) ≡ true → shape_of (joined (t ∷ ts)) ≡ shape (t ∷ ts)
 shaped t ts h = ap shape (tokens_joined t ts h)

@@ -1,9 +1,9 @@
 -- The map that lines without a fault spell is one that lines can be printed of.
-use Rattle.std.proofs.Common.{◌≡◌, ℕ, zero, suc, ◌+◌, ◌*◌, ◌<◌, ◌≤◌, Bool, true, false, Some, None, Option, inl, inr, List, [], ◌∷◌, ◌++◌, length, refl, ap, sym, subst, ◌∙◌, arith, append_assoc}
-use Rattle.std.specs.Prelude.{◌&&◌, ◌||◌, not, ⊤, MatchOption, unwrap_or, option_map, nat_le, ◌⊎◌}
+use Rattle.std.proofs.Common.{◌≡◌, ℕ, zero, suc, ◌+◌, ◌*◌, ◌<◌, ◌≤◌, true, false, Some, None, Option, inl, inr, List, [], ◌∷◌, ◌++◌, length, refl, ap, sym, subst, ◌∙◌, arith, append_assoc}
+use Rattle.std.specs.Prelude.{◌&&◌, not, ⊤, MatchOption, option_map, ◌⊎◌}
 use Rattle.std.specs.List.{All}
 use Rattle.std.specs.Option.{option_map_or, option_to_list}
-use Rattle.std.proofs.lemmas.Bool.{false_from_ne_true, not-false, and_parts, leb-true, ltb-false, cases_lt}
+use Rattle.std.proofs.lemmas.Bool.{false_from_ne_true, not-false, and_parts, or_parts, ltb-false, cases_lt}
 use Rattle.std.proofs.lemmas.List.{append-nil, length_push}
 use Rattle.std.proofs.lemmas.List.Elements.{All-push}
 use Rattle.std.proofs.lemmas.List.Sums.{fold_push}
@@ -25,7 +25,7 @@ use Rattle.plural_map.specs.Shape.{shape_of}
 use Rattle.plural_map.specs.Parts.{Parts, number_of, with_dep, with_region, with_line, with_text, nothing, parts_of, whole}
 use Rattle.plural_map.specs.Rules.{Breaks, HasKind, IsInsideAt, IsOutsideAt, is_between, is_out_of_place, is_out_of_range, is_misnamed, is_too_many, has, closed}
 use Rattle.plural_map.proofs.Kept.{length_all, declared_all}
-use Rattle.plural_map.proofs.Keeps.{IsKept, kept_nothing, kept_more, kept_map}
+use Rattle.plural_map.proofs.Keeps.{IsKept, between, kept_nothing, kept_more, kept_map}
 use Rattle.plural_reread.specs.Laws.{IsSpelledRegion, IsVersion1, MapFits}
 use Rattle.plural_reread.proofs.Named.{HasNames, line_named}
 
@@ -55,11 +55,6 @@ inside_from p (line.Region mode base stride count) none = by_task p.current none
     by_task : (t : Option TaskValue) → ((k : ℕ) → IsOutsideAt (record p { current = t }) (line.Region mode base stride count) k → ⊥) → IsInsideAt (record p { current = t }) (line.Region mode base stride count)
     by_task None none = tt
     by_task (Some t) none = none_up_to (region_of mode base stride count) t.quota p.words t.quota none (omega arith)
-
--- A number that is there and between two lies between them, whatever stands for none.
-between : (low high : ℕ) (n : Option ℕ) (d : ℕ) → is_between low high n ≡ true → (low ≤ unwrap_or n d) × (unwrap_or n d ≤ high)
-between low high None d e = absurd cc
-between low high (Some n) d e = let p = and_parts (nat_le low n) (nat_le n high) e in (leb-true low n p.0, leb-true n high p.1)
 
 region_spelled : (mode : Mode) (base stride count : Option ℕ) → is_out_of_range (line.Region mode base stride count) ≡ false → IsSpelledRegion (region_of mode base stride count)
 region_spelled mode base stride count e =
@@ -93,10 +88,6 @@ all_written : (labels : List (List ℕ)) (ts : List TaskValue) (o : Option TaskV
 all_written labels ts None h k = rw (append-nil ts) h
 all_written labels ts (Some t) h k = All-push (IsWritten labels) ts t h k
 
-or-false-right : (a b : Bool) → (a || b) ≡ false → b ≡ false
-or-false-right true b e = absurd cc
-or-false-right false b e = e
-
 dep_written : (labels : List (List ℕ)) (d : Dep) (o : Option TaskValue) → MatchOption o ⊤ (IsWritten labels) → MatchOption (option_map (with_dep d) o) ⊤ (IsWritten labels)
 dep_written labels d None h = tt
 dep_written labels d (Some t) h = record { name = h.name; entry = h.entry; known = h.known; every = h.every; regions = h.regions }
@@ -113,7 +104,7 @@ fit_more labels n p (line.Cache sets ways) f h r m k = record { kept = k; earlie
 fit_more labels n p (line.Task name kind entry budget) f h r m k = record {
   kept = k;
   earlier = all_written labels p.earlier p.current f.earlier f.current;
-  current = record { name = h.0; entry = h.1; known = not-false _ (or-false-right _ (not (has labels entry)) m); every = refl; regions = λ k d l. absurd (omega arith) };
+  current = record { name = h.0; entry = h.1; known = not-false _ (or_parts _ (not (has labels entry)) m).1; every = refl; regions = λ k d l. absurd (omega arith) };
 }
 fit_more labels n p (line.After name when) f h r m k = record { kept = k; earlier = f.earlier; current = dep_written labels (record { task = number_of name p.earlier; when = when }) p.current f.current }
 fit_more labels n p (line.Region mode base stride count) f h r m k = record {

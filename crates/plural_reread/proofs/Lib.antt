@@ -1,4 +1,3 @@
-pub mod Tokens
 pub mod Steps
 pub mod Shapes
 pub mod Found

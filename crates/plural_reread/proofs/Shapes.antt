@@ -2,8 +2,10 @@
 use Rattle.std.proofs.Common.{◌≡◌, ℕ, ◌<◌, ◌≤◌, Bool, true, false, ltb, Some, List, [], ◌∷◌, ◌++◌, refl, ap, sym, ◌∙◌, arith, append_assoc}
 use Rattle.std.specs.Prelude.{codes, decimal}
 use Rattle.std.specs.List.{list_all}
-use Rattle.std.proofs.lemmas.Bool.{and_from, ne_eqb, ltb-false, ltb-true}
-use Rattle.plural_bytes.specs.Names.{is_name, name_of}
+use Rattle.std.proofs.lemmas.Bool.{ne_eqb, ltb-false, ltb-true}
+use Rattle.plural_bytes.specs.Names.{is_name}
+use Rattle.plural_bytes.proofs.Decimals.{counted_back}
+use Rattle.plural_bytes.proofs.Tokens.{is_token, joined, all_tokens, decimal_token, name_token, name_back}
 use Rattle.plural_regions.specs.declared.region.Mode.{Mode}
 use Rattle.plural_regions.specs.declared.region.Mode.TheVariants as mode
 use Rattle.plural_map.specs.declared.line.MapLine.TheVariants as line
@@ -16,19 +18,6 @@ use Rattle.plural_map.specs.Limits.{is_set_count}
 use Rattle.plural_map.specs.Shape.{shape, when_of}
 use Rattle.plural_map.specs.Parts.{quota_of, is_dup}
 use Rattle.plural_map.specs.Print.{line_text, kind_text, task_line, when_text, mode_text}
-use Rattle.plural_reread.proofs.Tokens.{is_token, joined, decimal_token, counted_back, name_token}
-
--- Each is a token.
-abbrev AreTokens : List (List ℕ) → Type 0
-AreTokens [] = Unit {0}
-AreTokens (t ∷ ts) = (is_token t ≡ true) × AreTokens ts
-
-all_tokens : (ts : List (List ℕ)) → AreTokens ts → list_all is_token ts ≡ true
-all_tokens [] h = refl
-all_tokens (t ∷ ts) h = and_from _ _ h.0 (all_tokens ts h.1)
-
-name_back : (name : List ℕ) → is_name name ≡ true → name_of name ≡ Some name
-name_back name h = rw h refl
 
 -- A line of tokens is they with single spaces, and a line end.
 pub line_joined : (t : List ℕ) (ts : List (List ℕ)) → line_text (t ∷ ts) ≡ joined (t ∷ ts) ++ 10 ∷ []

@@ -7,42 +7,13 @@ use Rattle.std.proofs.lemmas.List.{append-nil, length-append}
 use Rattle.std.proofs.lemmas.List.Sums.{fold_push}
 use Rattle.plural_bytes.specs.Lines.{TextLine, pieces, content_from}
 use Rattle.plural_bytes.specs.Faults.{IsFaultless}
-use Rattle.plural_bytes.proofs.Faulted.{faultless_nil, faultless_push}
+use Rattle.plural_bytes.proofs.Tokens.{is_token, joined, tokens_joined, line_next}
 use Rattle.plural_map.specs.declared.line.MapLine.{MapLine}
 use Rattle.plural_map.specs.declared.line.MapLine.TheVariants as line
 use Rattle.plural_map.specs.Shape.{shape, shape_of}
 use Rattle.plural_map.specs.Parts.{Parts, with_line, with_text, nothing, parts_of}
 use Rattle.plural_map.specs.Rules.{Breaks, IsInsideAt, is_out_of_place, is_out_of_range, is_misnamed, is_too_many, closed}
-use Rattle.plural_map.proofs.Verdicts.{no_kind}
-use Rattle.plural_reread.proofs.Tokens.{is_token, joined, tokens_joined, line_next}
-
--- Lines without a fault that spell these parts.
-pub record Reads (labels : List (List ℕ)) (lines : List TextLine) (p : Parts) : Type 0 where
-  pub faultless : IsFaultless (Breaks labels) lines
-  pub value : p ≡ parts_of lines
-
-pub reads_nothing : (labels : List (List ℕ)) → Reads labels [] nothing
-reads_nothing labels = record { faultless = faultless_nil (Breaks labels); value = refl }
-
--- A line of this shape behind n lines that spell the parts has no fault.
-pub record IsFine (labels : List (List ℕ)) (n : ℕ) (p : Parts) (s : MapLine) : Type 0 where
-  pub place : is_out_of_place n p s ≡ false
-  pub range : is_out_of_range s ≡ false
-  pub names : is_misnamed labels p s ≡ false
-  pub counts : is_too_many p s ≡ false
-  pub inside : IsInsideAt p s
-
-pub reads_push : (labels : List (List ℕ)) (lines : List TextLine) (l : TextLine) (p : Parts) (s : MapLine) → Reads labels lines p → shape_of l.1 ≡ Some s → IsFine labels (length lines) p s
-    → Reads labels (lines ++ l ∷ []) (with_line p s)
-reads_push labels lines l p s r e f = record {
-  faultless = faultless_push (Breaks labels) lines l r.faultless (λ k b. no_kind labels (length lines) p s f.place f.range f.names f.counts f.inside k (rw (e, ← r.value) at b));
-  value = ap (λ x. with_line x s) r.value ∙ sym (fold_push with_text nothing lines l ∙ ap (λ o. option_map_or (with_line (parts_of lines)) o (parts_of lines)) e);
-}
-
--- The line that closes two lines or more has no fault.
-pub closed_reads : (labels : List (List ℕ)) (lines : List TextLine) (end : ℕ) (p : Parts) → Reads labels lines p → 2 ≤ length lines → IsFaultless (Breaks labels) (closed lines end)
-closed_reads labels lines end p r h =
-    faultless_push (Breaks labels) lines (end, []) r.faultless (λ k b. no_kind labels (length lines) (parts_of lines) line.End (le-ltb (length lines) 2 h) refl refl refl tt k b)
+use Rattle.plural_map.proofs.Reading.{Reads, IsFine, reads_push}
 
 -- ---- texts behind the first two lines
 

@@ -4,8 +4,8 @@
 //! fault and spell that map (`specs/Laws.antt`, `laws::map_again`), and each map that lines without a fault spell is one
 //! of version 1 (`laws::map_fits`); so a map that `plural_map::parse` answers, printed and read again, gives itself, or
 //! memory ran out.
-//! Stands on `plural_map`, whose definitions it speaks of, and on `plural_image`, whose proofs on printed lines it takes
-//! over. No crate stands on it.
+//! Stands on `plural_map`, whose definitions it speaks of, and on `plural_bytes`, whose lemmas on printed lines it uses
+//! (`proofs/Tokens.antt`). No crate stands on it.
 #![tactic(auto)]
 
 pub mod laws;
