@@ -2,7 +2,7 @@
 use Rattle.std.proofs.Common.{◌≡◌, ℕ, ◌+◌, ◌-◌, ◌<◌, Bool, true, false, List, [], ◌∷◌, ◌++◌, Some, None, length, take, drop, refl, ap, sym, subst, ◌∙◌, arith, take-append-drop, get_or}
 use Rattle.std.specs.Prelude.{codes, bytes_eq, position}
 use Rattle.std.specs.List.{position_or_len, before_first, after_first}
-use Rattle.std.proofs.lemmas.List.{map-append, length-map, length-drop, take_all}
+use Rattle.std.proofs.lemmas.List.{map-append, take-map, drop-map, length-map, length-drop, take_all}
 use Rattle.std.proofs.lemmas.List.Sums.{passes_at_first}
 use Rattle.std.proofs.lemmas.Bool.{true≢false}
 use Rattle.std.proofs.lemmas.Slice.Eq.{bytes_eq-Decides}
@@ -10,16 +10,16 @@ use Rattle.plural_bytes.proofs.Faulted.{round}
 use Rattle.plural_bytes.specs.Lines.{TextLine, has_text}
 use Rattle.plural_bytes.specs.declared.lines.Line.{Line}
 use Rattle.plural_bytes.specs.Spelled.{text_line, text_lines}
+use Rattle.plural_bytes.proofs.Passing.{from_yes, from_no, found, none_found, position_map, none_before}
 use Rattle.plural_bundle.specs.Sections.{closes, up_to_header, kernel_lines}
 use Rattle.plural_bundle.specs.Borders.{head_of, IsClosed, IsBehind, AllBlank, IsLeftOver}
 use Rattle.plural_bundle.specs.declared.fault.BundleError.TheVariants.{At}
 use Rattle.plural_bundle.specs.declared.fault.Fault.TheVariants.{Form}
-use Rattle.plural_bundle.proofs.Cut.{from_yes, from_no, found, none_found, position_map, map_take, map_drop, none_before}
 
 -- ---- a section
 
 pub cut_lines : (xs : List Line) (n : ℕ) → n ≡ position_or_len (λ (l : Line). closes l.text.now) xs → text_lines (take n xs) ≡ up_to_header (text_lines xs)
-cut_lines xs n e = map_take text_line n xs ∙ ap (λ m. take m (text_lines xs)) (e ∙ sym (position_map (λ l. closes l.1) text_line xs))
+cut_lines xs n e = sym (take-map text_line n xs) ∙ ap (λ m. take m (text_lines xs)) (e ∙ sym (position_map (λ l. closes l.1) text_line xs))
 
 pub rest_closed : (ls : List TextLine) → IsClosed (drop (position_or_len (λ l. closes l.1) ls) ls)
 rest_closed [] = tt
@@ -31,7 +31,7 @@ rest_closed (l ∷ ls) = by (closes l.1) refl (rest_closed ls)
 
 pub cut_closed : (xs : List Line) (n : ℕ) → n ≡ position_or_len (λ (l : Line). closes l.text.now) xs → IsClosed (text_lines (drop n xs))
 cut_closed xs n e =
-    let same : text_lines (drop n xs) ≡ drop (position_or_len (λ l. closes l.1) (text_lines xs)) (text_lines xs) = map_drop text_line n xs ∙ ap (λ m. drop m (text_lines xs)) (e ∙ sym (position_map (λ l. closes l.1) text_line xs)) in
+    let same : text_lines (drop n xs) ≡ drop (position_or_len (λ l. closes l.1) (text_lines xs)) (text_lines xs) = sym (drop-map text_line n xs) ∙ ap (λ m. drop m (text_lines xs)) (e ∙ sym (position_map (λ l. closes l.1) text_line xs)) in
     subst IsClosed (sym same) (rest_closed (text_lines xs))
 
 pub cut_whole : (xs : List Line) (n : ℕ) → text_lines xs ≡ text_lines (take n xs) ++ text_lines (drop n xs)
@@ -42,7 +42,7 @@ cut_whole xs n = ap text_lines (sym (take-append-drop n xs)) ∙ map-append text
 pub kernels_from : (xs : List Line) (n : ℕ) → drop n xs ≡ after_first (λ (l : Line). bytes_eq l.text.now (codes "[kernels]")) xs → up_to_header (text_lines (drop n xs)) ≡ kernel_lines (text_lines xs)
 kernels_from xs n e =
     ap (λ ys. up_to_header (text_lines ys)) e
-    ∙ ap up_to_header (map_drop text_line (position_or_len (λ (l : Line). bytes_eq l.text.now (codes "[kernels]")) xs + 1) xs ∙ ap (λ m. drop (m + 1) (text_lines xs)) (sym (position_map (λ l. bytes_eq l.1 (codes "[kernels]")) text_line xs)))
+    ∙ ap up_to_header (sym (drop-map text_line (position_or_len (λ (l : Line). bytes_eq l.text.now (codes "[kernels]")) xs + 1) xs) ∙ ap (λ m. drop (m + 1) (text_lines xs)) (sym (position_map (λ l. bytes_eq l.1 (codes "[kernels]")) text_line xs)))
 
 -- ---- what stands first
 
@@ -68,7 +68,7 @@ all_blank xs e =
 pub left_over : (xs : List Line) (n : ℕ) (d : Line) → position (λ (l : Line). has_text l.text.now) xs ≡ Some n → IsLeftOver (text_lines xs) (At (get_or xs n d).number Form)
 left_over xs n d e =
     let f = found (λ (l : Line). has_text l.text.now) xs n e in
-    let before : before_first (λ l. has_text l.1) (text_lines xs) ≡ text_lines (take n xs) = ap (λ m. take m (text_lines xs)) (position_map (λ l. has_text l.1) text_line xs ∙ f.0) ∙ sym (map_take text_line n xs) in
+    let before : before_first (λ l. has_text l.1) (text_lines xs) ≡ text_lines (take n xs) = ap (λ m. take m (text_lines xs)) (position_map (λ l. has_text l.1) text_line xs ∙ f.0) ∙ take-map text_line n xs in
     record {
       before = text_lines (take n xs);
       line = text_line (get_or xs n d);

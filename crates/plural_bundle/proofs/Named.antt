@@ -1,39 +1,33 @@
 -- The sections of a bundle that was read are those that its definition names.
-use Rattle.std.proofs.Common.{◌≡◌, ℕ, Bool, true, false, List, [], ◌∷◌, ◌++◌, Some, None, refl, ap, sym, ◌∙◌, append_assoc}
+use Rattle.std.proofs.Common.{◌≡◌, ℕ, true, false, List, [], ◌∷◌, ◌++◌, Some, None, refl, ap, sym, ◌∙◌, append_assoc}
 use Rattle.std.specs.Prelude.{codes, bytes_eq}
 use Rattle.std.specs.List.{AllByRecursion, after_first}
+use Rattle.std.proofs.lemmas.Bool.{false_from_ne_true}
 use Rattle.std.proofs.lemmas.Slice.Eq.{bytes_eq-Decides}
 use Rattle.plural_bytes.specs.Lines.{TextLine}
+use Rattle.plural_bytes.proofs.Passing.{after_at, all_weaker, all_append}
 use Rattle.plural_bundle.specs.declared.fault.Fault.TheVariants.{Form}
 use Rattle.plural_bundle.specs.Sections.{closes, up_to_header, section, map_lines, kernel_lines, image_lines}
 use Rattle.plural_bundle.specs.FirstLine.{first_line_fault}
 use Rattle.plural_bundle.specs.Borders.{IsBegun, IsBehind}
-use Rattle.plural_bundle.proofs.Cut.{after_at, all_weaker, all_append}
 use Rattle.plural_bundle.proofs.Behind.{NoneCloses}
 
 -- none of the lines is this header
 abbrev pub Lacks : List ℕ → List TextLine → Type 0
 Lacks header lines = AllByRecursion (λ l. bytes_eq l.1 header ≡ false) lines
 
+-- texts that a function tells apart differ
+apart : {X : Type 0} (f : List ℕ → X) (text header : List ℕ) → (f text ≡ f header → ⊥) → bytes_eq text header ≡ false
+apart f text header h = false_from_ne_true (bytes_eq text header) (λ e. h (ap f ((bytes_eq-Decides text header).0 e)))
+
 first_apart : (text header : List ℕ) → first_line_fault text ≡ None → first_line_fault header ≡ Some Form → bytes_eq text header ≡ false
-first_apart text header good bad = by (bytes_eq text header) refl
-  where
-    by : (b : Bool) → bytes_eq text header ≡ b → bytes_eq text header ≡ false
-    by false e = e
-    by true e =
-        let same : text ≡ header = (bytes_eq-Decides text header).0 e in
-        absurd (let f : None ≡ Some Form = sym good ∙ ap first_line_fault same ∙ bad in cc)
+first_apart text header good bad = apart first_line_fault text header (λ e. let f : None ≡ Some Form = sym good ∙ e ∙ bad in cc)
 
 stays_apart : (text header : List ℕ) → closes header ≡ true → closes text ≡ false → bytes_eq text header ≡ false
-stays_apart text header close stay = by (bytes_eq text header) refl
-  where
-    by : (b : Bool) → bytes_eq text header ≡ b → bytes_eq text header ≡ false
-    by false e = e
-    by true e =
-        let same : text ≡ header = (bytes_eq-Decides text header).0 e in
-        absurd (let f : false ≡ true = sym stay ∙ ap closes same ∙ close in cc)
+stays_apart text header close stay = apart closes text header (λ e. let f : false ≡ true = sym stay ∙ e ∙ close in cc)
 
-lines_lack : (header : List ℕ) (lines : List TextLine) → closes header ≡ true → NoneCloses lines → Lacks header lines
+-- lines that close no section aren't this header
+pub lines_lack : (header : List ℕ) (lines : List TextLine) → closes header ≡ true → NoneCloses lines → Lacks header lines
 lines_lack header lines close h = all_weaker (λ l. closes l.1 ≡ false) (λ l. bytes_eq l.1 header ≡ false) lines (λ l e. stays_apart l.1 header close e) h
 
 named : (header : List ℕ) (all pre rest : List TextLine) (number : ℕ) → all ≡ pre ++ (number, header) ∷ rest → Lacks header pre → bytes_eq header header ≡ true → section header all ≡ up_to_header rest

@@ -7,6 +7,7 @@ use Rattle.std.proofs.lemmas.Bool.{true≢false}
 use Rattle.plural_bytes.specs.Lines.{TextLine, has_text}
 use Rattle.plural_bytes.specs.Faults.{IsFaultless}
 use Rattle.plural_bytes.proofs.Faulted.{faultless_push}
+use Rattle.plural_bytes.proofs.Passing.{none_before, before_at, all_back}
 use Rattle.plural_map.specs.Rules as map
 use Rattle.plural_map.specs.Rules.{closed}
 use Rattle.plural_map.specs.Parts.{map_of}
@@ -25,7 +26,6 @@ use Rattle.plural_bundle.specs.Rules.{SectionBreaks, Breaks}
 use Rattle.plural_bundle.specs.Borders.{head_of, IsClosed, IsBegun, IsBehind}
 use Rattle.plural_bundle.specs.Answer.{IsBundle}
 use Rattle.plural_bundle.specs.Laws.{Parts, lines_of, AreGood, PartsMakeABundle, ABundleHasParts}
-use Rattle.plural_bundle.proofs.Cut.{before_yes, before_no, none_before, all_back}
 use Rattle.plural_bundle.proofs.Bordered.{rest_closed, empty_apart}
 use Rattle.plural_bundle.proofs.Behind.{NoneCloses}
 use Rattle.plural_bundle.proofs.Staged.{Stage, Section, front, stage_map, stage_next, stage_closed, rule, delegates, section_closed, head_tail, tail_of, head_closes}
@@ -35,10 +35,6 @@ use Rattle.plural_bundle.proofs.Past.{past_here}
 use Rattle.plural_bundle.proofs.Whole.{AtMap, AtKernels, AtImage, is_bundle, value_is}
 
 -- ---- parts make a bundle
-
-before_at : (lines : List TextLine) (l : TextLine) (ls : List TextLine) → NoneCloses lines → closes l.1 ≡ true → up_to_header (lines ++ l ∷ ls) ≡ lines
-before_at [] l ls h e = before_yes (λ m. closes m.1) l ls e
-before_at (x ∷ xs) l ls h e = before_no (λ m. closes m.1) x (xs ++ l ∷ ls) h.0 ∙ ap (λ ys. x ∷ ys) (before_at xs l ls h.1 e)
 
 pub parts_make_a_bundle : PartsMakeABundle
 parts_make_a_bundle p end g =
@@ -53,12 +49,12 @@ parts_make_a_bundle p end g =
     let begun : IsBegun (lines_of p) r1 = record { first = p.first; whole = refl; good = g.first } in
     let map_header : IsBehind (codes "[map]") r1 r2 = record { number = p.at_map; whole = refl } in
     let kernels_header : IsBehind (codes "[kernels]") r3 r4 = record { number = p.at_kernels; whole = refl } in
-    let own : kernel_lines (lines_of p) ≡ p.kernel_part = kernels_is (lines_of p) r1 r2 p.map_part r3 r4 begun map_header refl g.map_stays kernels_header ∙ before_at p.kernel_part (p.at_image, codes "[image]") r6 g.kernels_stay refl in
-    let m : AtMap (lines_of p) r1 r2 p.map_part r3 = record { begun = begun; header = map_header; own = sym (before_at p.map_part (p.at_kernels, codes "[kernels]") r4 g.map_stays refl); whole = refl; shut = refl } in
+    let own : kernel_lines (lines_of p) ≡ p.kernel_part = kernels_is (lines_of p) r1 r2 p.map_part r3 r4 begun map_header refl g.map_stays kernels_header ∙ before_at (λ m. closes m.1) p.kernel_part (p.at_image, codes "[image]") r6 g.kernels_stay refl in
+    let m : AtMap (lines_of p) r1 r2 p.map_part r3 = record { begun = begun; header = map_header; own = sym (before_at (λ m. closes m.1) p.map_part (p.at_kernels, codes "[kernels]") r4 g.map_stays refl); whole = refl; shut = refl } in
     let k : AtKernels (lines_of p) r1 r2 p.map_part r3 r4 p.kernel_part r5 (names_of p.kernel_part) p.at_kernels =
-    record { at_map = m; names = ap names_of (sym own); good = g.map_good; header = kernels_header; own = sym (before_at p.kernel_part (p.at_image, codes "[image]") r6 g.kernels_stay refl); whole = refl; shut = refl } in
+    record { at_map = m; names = ap names_of (sym own); good = g.map_good; header = kernels_header; own = sym (before_at (λ m. closes m.1) p.kernel_part (p.at_image, codes "[image]") r6 g.kernels_stay refl); whole = refl; shut = refl } in
     let i : AtImage (lines_of p) r1 r2 p.map_part r3 r4 p.kernel_part r5 r6 p.image_part r7 (names_of p.kernel_part) p.at_kernels =
-    record { at_kernels = k; good = g.kernels_good; header = record { number = p.at_image; whole = refl }; own = sym (before_at p.image_part (p.at_end, codes "[end]") r8 g.image_stays refl); whole = refl; shut = refl } in (
+    record { at_kernels = k; good = g.kernels_good; header = record { number = p.at_image; whole = refl }; own = sym (before_at (λ m. closes m.1) p.image_part (p.at_end, codes "[end]") r8 g.image_stays refl); whole = refl; shut = refl } in (
       is_bundle (lines_of p) r1 r2 p.map_part r3 r4 p.kernel_part r5 r6 p.image_part r7 (names_of p.kernel_part) p.at_kernels i end (map_of p.map_part).words r8 refl g.image_good (record { number = p.at_end; whole = refl }) tt,
       sym (value_is (lines_of p) r1 r2 p.map_part r3 r4 p.kernel_part r5 r6 p.image_part r7 (names_of p.kernel_part) p.at_kernels i (map_of p.map_part).words (map_of p.map_part) (code_of p.kernel_part p.kernel_part) (labels_of p.kernel_part) (program_with (map_of p.map_part) (code_of p.kernel_part p.kernel_part) (labels_of p.kernel_part))
           (image_of (map_of p.map_part).words p.image_part) refl refl refl refl refl refl),

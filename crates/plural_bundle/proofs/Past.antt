@@ -3,6 +3,7 @@ use Rattle.std.proofs.Common.{◌≡◌, ℕ, suc, ◌+◌, true, false, List, [
 use Rattle.plural_bytes.specs.Lines.{TextLine, has_text}
 use Rattle.plural_bytes.specs.Faults.{IsFaultless}
 use Rattle.plural_bytes.proofs.Faulted.{faultless_push}
+use Rattle.plural_bytes.proofs.Passing.{all_append}
 use Rattle.plural_map.specs.Rules.{closed}
 use Rattle.plural_bundle.specs.declared.fault.Fault.{Fault}
 use Rattle.plural_bundle.specs.declared.fault.Fault.TheVariants as fault
@@ -11,7 +12,6 @@ use Rattle.plural_bundle.specs.Sections.{closings, since}
 use Rattle.plural_bundle.specs.Rules.{PastBreaks, SectionBreaks, Breaks}
 use Rattle.plural_bundle.specs.Borders.{AllBlank, IsLeftOver}
 use Rattle.plural_bundle.specs.Answer.{IsBundle, Faults}
-use Rattle.plural_bundle.proofs.Cut.{all_append}
 use Rattle.plural_bundle.proofs.Behind.{closings_more}
 use Rattle.plural_bundle.proofs.Staged.{Stage, front, stage_closed, rank_low}
 

@@ -1,11 +1,8 @@
 -- The rules of the three sections, and the line that closes the map's.
-use Rattle.std.proofs.Common.{◌≡◌, ℕ, Bool, true, false, List, [], ◌∷◌, ◌++◌, refl, ap, sym, subst, subst₂, ◌∙◌, append_assoc, append-nil, inl, inr, ◌⊎◌}
+use Rattle.std.proofs.Common.{◌≡◌, ℕ, Bool, true, false, List, [], refl, ap, sym, subst, inl}
 use Rattle.std.specs.Prelude.{codes}
 use Rattle.plural_bytes.specs.Lines.{TextLine}
-use Rattle.plural_bytes.specs.Faults.{IsFaultless, IsFirstFault}
-use Rattle.plural_bytes.proofs.Sections.{split_append}
 use Rattle.plural_map.specs.Rules as map
-use Rattle.plural_map.specs.Rules.{closed}
 use Rattle.plural_map.specs.Parts.{map_of}
 use Rattle.plural_map.specs.declared.fault.MapKind.{MapKind}
 use Rattle.plural_map.specs.declared.fault.MapKind.TheVariants as map_kind
@@ -72,30 +69,3 @@ closing_form labels before map_kind.Number b = absurd (let e : false ≡ true = 
 closing_form labels before map_kind.Name b = absurd (let e : false ≡ true = b in cc)
 closing_form labels before map_kind.Count b = absurd (let e : false ≡ true = b in cc)
 closing_form labels before (map_kind.Outside k) b = absurd b
-
--- lines and the line that closes them have no fault where neither has
-pub closed_none : (labels : List (List ℕ)) (lines : List TextLine) (end : ℕ) → IsFaultless (map.Breaks labels) (closed lines end)
-    → IsFaultless (map.Breaks labels) lines × ((k : MapKind) → map.Breaks labels lines [] k → ⊥)
-closed_none labels lines end f = (
-  record {
-    none = λ number k h. f.none number k (record { before = h.before; text = h.text; after = h.after ++ (end, []) ∷ []; whole = ap (λ x. x ++ (end, []) ∷ []) h.whole ∙ append_assoc h.before ((number, h.text) ∷ h.after) ((end, []) ∷ []); breaks = h.breaks });
-  },
-  λ k b. f.none end k (record { before = lines; text = []; after = []; whole = refl; breaks = b }),
-)
-
-no_more : {A : Type 0} (x y : A) (cs zs : List A) → x ∷ [] ≡ cs ++ y ∷ zs → (cs ≡ []) × (x ≡ y) × (zs ≡ [])
-no_more x y [] zs e = (refl, cc, cc)
-no_more x y (c ∷ []) zs e = absurd cc
-no_more x y (c ∷ d ∷ cs) zs e = absurd cc
-
--- their first fault is one of the lines, or that of the line that closes them
-pub closed_first : (labels : List (List ℕ)) (lines : List TextLine) (end number : ℕ) (k : MapKind) → IsFirstFault map.rank (map.Breaks labels) (closed lines end) number k
-    → IsFirstFault map.rank (map.Breaks labels) lines number k ⊎ (IsFaultless (map.Breaks labels) lines × (number ≡ end) × map.Breaks labels lines [] k)
-closed_first labels lines end number k f = elim (split_append lines ((end, []) ∷ []) f.before (number, f.text) f.after f.whole) [
-  | inl p ↦ inl (record { before = f.before; text = f.text; after = p.0; whole = p.1; earlier = f.earlier; breaks = f.breaks; least = f.least })
-  | inr p ↦
-      let q = no_more (end, []) (number, f.text) p.0 f.after p.2 in
-      let same : f.before ≡ lines = p.1 ∙ ap (λ x. lines ++ x) q.0 ∙ append-nil lines in
-      let text : f.text ≡ [] = sym (ap (λ (l : TextLine). l.1) q.1) in
-      inr (subst (IsFaultless (map.Breaks labels)) same f.earlier, sym (ap (λ (l : TextLine). l.0) q.1), subst₂ (λ b t. map.Breaks labels b t k) same text f.breaks)
-]

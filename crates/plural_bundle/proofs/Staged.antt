@@ -5,6 +5,7 @@ use Rattle.plural_bytes.specs.Lines.{TextLine}
 use Rattle.plural_bytes.specs.Faults.{IsFaultless, IsFirstFault}
 use Rattle.plural_bytes.proofs.Faulted.{faultless_nil, faultless_push}
 use Rattle.plural_bytes.proofs.Sections.{Delegates, faultless_section, first_in_section}
+use Rattle.plural_bytes.proofs.Passing.{all_front, all_back}
 use Rattle.plural_map.specs.Rules.{closed}
 use Rattle.plural_bundle.specs.declared.fault.Fault.{Fault}
 use Rattle.plural_bundle.specs.declared.fault.Fault.TheVariants as fault
@@ -16,7 +17,6 @@ use Rattle.plural_bundle.specs.Kinds.{rank}
 use Rattle.plural_bundle.specs.Rules.{Renamed, SectionBreaks, Breaks}
 use Rattle.plural_bundle.specs.Borders.{head_of, IsClosed, IsBegun, IsBadFirst, IsBehind, IsMissing}
 use Rattle.plural_bundle.specs.Answer.{Faults}
-use Rattle.plural_bundle.proofs.Cut.{all_front, all_back}
 use Rattle.plural_bundle.proofs.Behind.{NoneCloses, Begins, begins_nothing, begins_next}
 
 -- ---- the end of the lines

@@ -7,6 +7,7 @@ use Rattle.std.proofs.lemmas.Bool.{cases_lt}
 use Rattle.std.proofs.lemmas.List.{length-map, length-replicate}
 use Rattle.plural_bytes.specs.Lines.{TextLine}
 use Rattle.plural_bytes.specs.Faults.{IsFaultless}
+use Rattle.plural_bytes.proofs.Passing.{all_append}
 use Rattle.plural_map.specs.Value.{MapValue, TaskValue}
 use Rattle.plural_asm.specs.Words.{gathered, label_at, labels_of}
 use Rattle.plural_asm.specs.Labels.{size_of}
@@ -19,7 +20,6 @@ use Rattle.plural_image.specs.declared.fault.ImageKind.TheVariants.{Address}
 use Rattle.plural_image.proofs.Imaged.{length-overwritten}
 use Rattle.plural_serial.specs.Program.{IsProgram}
 use Rattle.plural_bundle.specs.Value.{pc_of}
-use Rattle.plural_bundle.proofs.Cut.{all_append}
 
 -- ---- pcs
 

@@ -3,6 +3,8 @@ use Rattle.std.proofs.Common.{◌≡◌, ℕ, true, false, List, [], ◌++◌, r
 use Rattle.std.specs.Prelude.{codes, Result, Ok, Err, MatchResult, IsErrAnd}
 use Rattle.plural_bytes.specs.Lines.{TextLine}
 use Rattle.plural_bytes.specs.Faults.{IsFaultless, IsFirstFault}
+use Rattle.plural_bytes.proofs.Passing.{none_before}
+use Rattle.plural_bytes.proofs.Faulted.{last_none, last_first}
 use Rattle.plural_map.specs.Rules as map
 use Rattle.plural_map.specs.Rules.{closed}
 use Rattle.plural_map.specs.Parts.{map_of}
@@ -31,16 +33,15 @@ use Rattle.plural_asm.specs.Words.{code_of, labels_of}
 use Rattle.plural_asm.specs.declared.object.Label.{Label}
 use Rattle.plural_image.specs.Image.{image_of}
 use Rattle.plural_serial.specs.Program.{ProgramValue}
-use Rattle.plural_bundle.specs.Value.{BundleValue, program_with, program_of, bundle_of}
-use Rattle.plural_bundle.proofs.Cut.{none_before}
+use Rattle.plural_bundle.specs.Value.{program_with, program_of, bundle_of}
 use Rattle.plural_bundle.proofs.Behind.{NoneCloses}
 use Rattle.plural_bundle.proofs.Staged.{Stage, front, stage_map, stage_next, rule, head_closes, form_first, section_closed, section_faultless, section_first, section_missing}
-use Rattle.plural_bundle.proofs.Sectioned.{in_closing, map_section, kernel_section, image_section, map_rank, kernel_rank, image_rank, closing_form, closed_none, closed_first}
+use Rattle.plural_bundle.proofs.Sectioned.{in_closing, map_section, kernel_section, image_section, map_rank, kernel_rank, image_rank, closing_form}
 use Rattle.plural_bundle.proofs.Past.{past_none, past_first}
 use Rattle.plural_bundle.proofs.Named.{map_is, kernels_is, image_is}
 
 -- an error that was answered is the one that this says of
-pub answered : (r : Result BundleValue BundleError) (P : BundleValue → Type 0) (Q : BundleError → Type 0) (e : BundleError) → IsErrAnd r (λ x. x ≡ e) → Q e → MatchResult r P Q
+pub answered : {V E : Type 0} (r : Result V E) (P : V → Type 0) (Q : E → Type 0) (e : E) → IsErrAnd r (λ x. x ≡ e) → Q e → MatchResult r P Q
 answered (Ok v) P Q e h q = absurd h
 answered (Err x) P Q e h q = subst Q (sym h) q
 
@@ -97,7 +98,7 @@ module _ (all r1 r2 maps back : List TextLine) (a : AtMap all r1 r2 maps back) w
   pub kernels_missing : (end number : ℕ) (labels : List (List ℕ)) (e : BundleError) → labels ≡ names_of (kernel_lines all) → IsFaultless (map.Breaks labels) (closed maps number) → IsMissing (codes "[kernels]") back end e → Faults all end e
   kernels_missing end number labels e names good m =
       section_missing all r2 0 (codes "[kernels]") (map.Breaks (names_of (kernel_lines all))) map_fault map_stage (map_section all) maps back end e map_none a.whole
-      (closed_none (names_of (kernel_lines all)) maps number (subst (λ l. IsFaultless (map.Breaks l) (closed maps number)) names good)).0 a.shut m
+      (last_none (map.Breaks (names_of (kernel_lines all))) maps (number, []) (subst (λ l. IsFaultless (map.Breaks l) (closed maps number)) names good)).0 a.shut m
 
   -- the map's first fault, where it is that of the line that closes its section
   map_closing : (end : ℕ) (k : MapKind) → IsFaultless (map.Breaks (names_of (kernel_lines all))) maps → map.Breaks (names_of (kernel_lines all)) maps [] k → Faults all end (At (head_of back end).0 (map_fault k))
@@ -112,7 +113,7 @@ module _ (all r1 r2 maps back : List TextLine) (a : AtMap all r1 r2 maps back) w
       (subst (λ X. X) (sym (rule all r2 0 map_stage maps map_none (head_of back end).1 fault.Form)) here) refl)
 
   map_first : (end number line : ℕ) (k : MapKind) → number ≡ (head_of back end).0 → IsFirstFault map.rank (map.Breaks (names_of (kernel_lines all))) (closed maps number) line k → Faults all end (At line (map_fault k))
-  map_first end number line k n f = elim (closed_first (names_of (kernel_lines all)) maps number line k f) [
+  map_first end number line k n f = elim (last_first map.rank (map.Breaks (names_of (kernel_lines all))) maps (number, []) line k f) [
     | inl first ↦ section_first all r2 0 (codes "[kernels]") (map.Breaks (names_of (kernel_lines all))) map_fault map_stage (map_section all) map.rank maps back end line k map_rank map_none a.whole first
     | inr last ↦ subst (λ x. Faults all end (At x (map_fault k))) (sym (last.1 ∙ n)) (map_closing end k last.0 last.2)
   ]
@@ -130,7 +131,7 @@ module _ (all r1 r2 maps back r4 lines after : List TextLine) (labels : List (Li
 
   pub kernels_stage : Stage all 1 r4
   kernels_stage =
-      let good = closed_none (names_of (kernel_lines all)) maps number (subst (λ l. IsFaultless (map.Breaks l) (closed maps number)) a.names a.good) in
+      let good = last_none (map.Breaks (names_of (kernel_lines all))) maps (number, []) (subst (λ l. IsFaultless (map.Breaks l) (closed maps number)) a.names a.good) in
       stage_next all r2 0 (codes "[kernels]") (map.Breaks (names_of (kernel_lines all))) map_fault (map_stage all r1 r2 maps back a.at_map) (map_section all) maps back r4 (map_none all r1 r2 maps back a.at_map) a.at_map.whole
       good.0 refl a.header (λ k o. elim o [ inl x ↦ absurd (let f : true ≡ false = x.1 in cc) | inr x ↦ good.1 x.0 x.2 ])
 

@@ -1,16 +1,16 @@
 //! What has to stand between the sections of a bundle, before them and behind them.
 
-ghost use Rattle.std.specs.Prelude.{◌≡◌, ◌<◌, ◌≤◌, length, position, bytes_eq, MatchResult, IfOk};
+ghost use Rattle.std.specs.Prelude.{◌≡◌, ◌<◌, ◌≤◌, length, position, MatchResult, IfOk};
 ghost use Rattle.plural_bytes.specs.Lines.{has_text};
 ghost use Rattle.plural_bytes.specs.Spelled.{text_lines};
 ghost use Rattle.plural_bundle.specs.Borders.{head_of, IsBegun, IsBadFirst, IsBehind, IsMissing, AllBlank, IsLeftOver};
 
 use crate::fault::{BundleError, Fault};
 use crate::first_line::first_line_fault;
-use plural_bytes::Line;
+use plural_bytes::{Line, is_word};
 
 /// The number of the line that stands first, or `end` where there is none.
-pub(crate) fn first_number(lines: &[Line<'_>], end: u32) -> u32
+pub fn first_number(lines: &[Line<'_>], end: u32) -> u32
     ensures { result ≡ (head_of (text_lines lines.now) end).0 }
 {
     match lines {
@@ -46,14 +46,9 @@ pub(crate) fn behind_first<'a, 'b>(
     }
 }
 
-fn is_header(text: &[u8], header: &[u8]) -> bool
-    ensures { result ≡ bytes_eq text.now header.now }
-{
-    text == header
-}
-
-/// The lines behind a header that is due, or a fault of form of what stands in its place.
-pub(crate) fn behind<'a, 'b>(
+/// The lines behind a header that is due, or a fault of form of what stands in its place: its first line, or `end` where
+/// there is none.
+pub fn behind<'a, 'b>(
     lines: &'a [Line<'b>],
     header: &[u8],
     end: u32,
@@ -62,7 +57,7 @@ pub(crate) fn behind<'a, 'b>(
     ensures answer { MatchResult result (λ rest. IsBehind header.now (text_lines lines.now) (text_lines rest.now)) (IsMissing header.now (text_lines lines.now) end) }
     ensures few { IfOk result (λ rest. length rest.now ≤ length lines.now) }
 {
-    if !is_header(first_text(lines), header) {
+    if !is_word(first_text(lines), header) {
         return Err(BundleError::At {
             line: first_number(lines, end),
             fault: Fault::Form,
@@ -84,7 +79,7 @@ fn find_text(lines: &[Line<'_>]) -> Option<usize>
 }
 
 /// Answers a fault of form of the first line that has a text.
-pub(crate) fn nothing_behind(lines: &[Line<'_>]) -> Result<(), BundleError>
+pub fn nothing_behind(lines: &[Line<'_>]) -> Result<(), BundleError>
     ensures { MatchResult result (λ _. AllBlank (text_lines lines.now)) (IsLeftOver (text_lines lines.now)) }
 {
     match find_text(lines) {

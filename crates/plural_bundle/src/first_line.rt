@@ -1,11 +1,11 @@
 //! The first line of a bundle.
 
-ghost use Rattle.std.specs.Prelude.{◌≡◌, bytes_eq};
+ghost use Rattle.std.specs.Prelude.{◌≡◌};
 ghost use Rattle.plural_bytes.specs.Numerals.{numeral};
 ghost use Rattle.plural_bundle.specs.FirstLine.{version_fault, first_line_fault};
 
 use crate::fault::Fault;
-use plural_bytes::{NumberError, next_token, number};
+use plural_bytes::{NumberError, is_word, next_token, number};
 
 /// The version of bundles that is read.
 const VERSION: u64 = 1;
@@ -18,12 +18,6 @@ fn version_fault(text: &[u8]) -> Option<Fault>
         Err(NumberError::Form) => Some(Fault::Form),
         _ => Some(Fault::Number),
     }
-}
-
-fn is_word(text: &[u8], word: &[u8]) -> bool
-    ensures { result ≡ bytes_eq text.now word.now }
-{
-    text == word
 }
 
 /// The fault of a first line, if it has one: it is `plural` and a version.

@@ -6,12 +6,14 @@ ghost use Rattle.plural_bytes.specs.Spelled.{text_lines};
 ghost use Rattle.plural_bundle.specs.Sections.{closes, up_to_header, kernel_lines};
 ghost use Rattle.plural_bundle.specs.Borders.{IsClosed};
 
-use plural_bytes::Line;
+use plural_bytes::{Line, is_word};
 
-/// The lines of a section, and those from the line on that closes it.
+/// A section, cut off the front of lines.
 #[derive(Clone, Copy)]
-pub(crate) struct Section<'a, 'b> {
+pub struct Section<'a, 'b> {
+    /// Its lines.
     pub lines: &'a [Line<'b>],
+    /// The lines from the one on that closes it.
     pub rest: &'a [Line<'b>],
 }
 
@@ -39,8 +41,8 @@ fn section_len(lines: &[Line<'_>]) -> usize
     find_closing(lines).unwrap_or(lines.len())
 }
 
-/// Cuts lines before the first that closes a section.
-pub(crate) fn next_section<'a, 'b>(lines: &'a [Line<'b>]) -> Section<'a, 'b>
+/// Cuts lines before the first that closes a section: a header, or a line without text.
+pub fn next_section<'a, 'b>(lines: &'a [Line<'b>]) -> Section<'a, 'b>
     ensures lines { text_lines result.lines.now ≡ up_to_header (text_lines lines.now) }
     ensures whole { text_lines lines.now ≡ text_lines result.lines.now ++ text_lines result.rest.now }
     ensures closed { IsClosed (text_lines result.rest.now) }
@@ -54,16 +56,10 @@ pub(crate) fn next_section<'a, 'b>(lines: &'a [Line<'b>]) -> Section<'a, 'b>
     }
 }
 
-fn is_kernels_header(text: &[u8]) -> bool
-    ensures { result ≡ bytes_eq text.now (codes "[kernels]") }
-{
-    text == b"[kernels]".as_slice()
-}
-
 fn find_kernels_header(lines: &[Line<'_>]) -> Option<usize>
     ensures { result ≡ position (λ l. bytes_eq l.text.now (codes "[kernels]")) lines.now }
 {
-    lines.iter().position(|l| is_kernels_header(l.text))
+    lines.iter().position(|l| is_word(l.text, b"[kernels]"))
 }
 
 /// Where the lines behind the first that is the header of the kernels begin, at the end where none

@@ -4,4 +4,4 @@ use Rattle.plural_bundle.proofs.Bordered.{behind_header}
 use Rattle.plural_bundle.proofs.border.behind.Goals as goal
 
 pub returns-clause-answer : goal.returns-clause-answer
-returns-clause-answer c = behind_header c.args.lines.now c.args.header.now c.requires (sym (ap (λ t. bytes_eq t c.args.header.now) c.first_text.ensures) ∙ sym c.is_header.ensures ∙ c.if-not-is_header.false)
+returns-clause-answer c = behind_header c.args.lines.now c.args.header.now c.requires (sym (ap (λ t. bytes_eq t c.args.header.now) c.first_text.ensures) ∙ sym c.is_word.ensures ∙ c.if-not-is_word.false)
