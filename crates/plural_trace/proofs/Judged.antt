@@ -27,7 +27,7 @@ use Rattle.plural_trace.specs.Least.{least}
 use Rattle.plural_trace.specs.Rules.{no_entry, entry_at, is_of, record_for, is_same_record, is_recorded, has_instance, breaks_records, breaks_tickets, ends_late, breaks_order, breaks_cores, breaks_rise, is_same_outcome, breaks_outcomes, breaks_words}
 use Rattle.plural_trace.specs.Verdicts.{or_verdict, judged, records_of, verdict_of}
 use Rattle.plural_trace.proofs.Places.{least_same, least_none}
-use Rattle.plural_trace.proofs.Recorded.{record_test}
+use Rattle.plural_trace.proofs.Recorded.{record_test, recorded_task}
 
 -- ---- outcomes at a place
 
@@ -104,25 +104,6 @@ pub outcomes_each : (p : ProgramValue) (m : List ℕ) → length (serial_of p m)
 outcomes_each p m = order_outcomes p p.map.order (opening p m) ∙ length-replicate {A = Option Outcome} (length p.map.tasks) None
 
 -- ---- entries of recorded instances
-
-found_task : (t k tasks : ℕ) (rs : List Record) (r : Record) → All (λ (r : Record). r.t < tasks) rs → record_for t k rs ≡ Some r → t < tasks
-found_task t k tasks [] r h e = absurd cc
-found_task t k tasks (x ∷ xs) r h e = by (is_of t k x) (λ f. found_task t k tasks xs r (All-tail (λ (r : Record). r.t < tasks) x xs h) f) refl e
-  where
-    by : (b : Bool) → (record_for t k xs ≡ Some r → t < tasks) → is_of t k x ≡ b → cond b (Some x) (record_for t k xs) ≡ Some r → t < tasks
-    by true later s f =
-        let p = and_parts (eqb x.t t) (eqb x.k k) s in
-        let same : x.t ≡ t = eqb-true x.t t p.0 in
-        let own : x.t < tasks = All-head (λ (r : Record). r.t < tasks) x xs h in
-        omega arith
-    by false later s f = later f
-
-recorded_task : (tasks : ℕ) (rs : List Record) (r : Record) → All (λ (r : Record). r.t < tasks) rs → is_recorded rs r ≡ true → r.t < tasks
-recorded_task tasks rs r h e = by (record_for r.t r.k rs) refl e
-  where
-    by : (o : Option Record) → record_for r.t r.k rs ≡ o → option_map_or (is_same_record r) o false ≡ true → r.t < tasks
-    by None s f = absurd cc
-    by (Some x) s f = found_task r.t r.k tasks rs x h s
 
 -- Where rule 1 has no place, the entries are of tasks of the map.
 pub entries_within : (tasks : ℕ) (rs : List Record) (es : List Entry) → All (λ (r : Record). r.t < tasks) rs → least (breaks_records rs es) (length es + 1) ≡ None → All (λ (e : Entry). e.rec.t < tasks) es

@@ -4,6 +4,7 @@ pub mod Places
 pub mod Latest
 pub mod Crowds
 pub mod Recorded
+pub mod Standing
 pub mod Judged
 pub mod SerialEntries
 pub mod Fits
@@ -11,4 +12,5 @@ pub mod Tokens
 pub mod Again
 pub mod Ordered
 pub mod Sequenced
+pub mod Stretches
 pub mod SerialLegal

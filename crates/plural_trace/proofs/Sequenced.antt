@@ -106,7 +106,7 @@ decision_run p order i decision.Run r l h =
     let b = block_of p order i q r.memory r.ran l h in
     record { placed = all_more (IsBelow order i q) (IsPlaced order (i + 1)) (r.ran ++ (instances p (slice_index order i) q r.memory).ran) (λ s x. below_placed order i q s l x) b.below; turn = b.turn }
 
-task_run : (p : ProgramValue) (order : List ℕ) (i : ℕ) (r : Run) → i < length order → IsRun order i r.ran → IsRun order (i + 1) (with_task p r (slice_index order i)).ran
+pub task_run : (p : ProgramValue) (order : List ℕ) (i : ℕ) (r : Run) → i < length order → IsRun order i r.ran → IsRun order (i + 1) (with_task p r (slice_index order i)).ran
 unfolding with_task
 task_run p order i r l h = decision_run p order i (decided (task_at p (slice_index order i)) r.outcomes) r l h
 

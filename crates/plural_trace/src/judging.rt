@@ -5,6 +5,7 @@ ghost use Rattle.plural_reach.specs.declared.tables.Reach.{Reach};
 ghost use Rattle.plural_reach.specs.Tables.{IsReachOf, says_before};
 ghost use Rattle.plural_serial.specs.declared.record_.Record.{Record};
 ghost use Rattle.plural_trace.specs.declared.verdict.Verdict.TheVariants.{No};
+ghost use Rattle.plural_trace.specs.Instances.{StandByInstance};
 ghost use Rattle.plural_trace.specs.Verdicts.{judged, verdict_of};
 
 use crate::compare::{outcome_fault, word_fault};
@@ -41,6 +42,8 @@ fn judge(
 ) -> Result<Verdict, Memory>
     requires few_tasks { tasks ≤ 256 }
     requires tasks { All (λ (r : Record). r.t < tasks) answer.now.records }
+    requires by_instance { StandByInstance answer.now.records }
+    requires few_records { length answer.now.records ≤ 65536 }
     requires few { length log.now.entries ≤ 65536 }
     requires one_each { length log.now.outcomes ≡ length answer.now.outcomes }
     requires few_outcomes { length answer.now.outcomes ≤ 256 }
@@ -49,7 +52,7 @@ fn judge(
     ensures { IfOk result (λ v. v ≡ judged answer.now.records (map (λ o. Some o) answer.now.outcomes) answer.now.image (says_before reach.now) log.now last.now) }
 {
     let entries = log.entries();
-    if let Some(at) = record_fault(alloc, answer.records(), entries)? {
+    if let Some(at) = record_fault(alloc, answer.records(), entries, tasks)? {
         return Ok(no(1, at));
     }
     if let Some(at) = ticket_fault(alloc, entries)? {

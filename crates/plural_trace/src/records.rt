@@ -1,18 +1,15 @@
 //! Rule 1: the instances of the serial run and their records.
-ghost use Rattle.std.specs.Prelude.{◌≡◌, ℕ, ◌+◌, ◌<◌, ◌≤◌, ◌^◌, ◌||◌, ◌&&◌, not, List, length, IfOk, IfSome, OnOk, if◌then◌else◌, Some, None};
-ghost use Rattle.std.specs.List.{list_any};
-ghost use Rattle.std.specs.BTreeMap as tree;
-ghost use Rattle.std.specs.BTreeSet as set;
+ghost use Rattle.std.specs.Prelude.{◌≡◌, ◌+◌, ◌<◌, ◌≤◌, ◌^◌, All, length, true, false, slice_index, IfOk, IfNone, IfSome};
+ghost use Rattle.std.specs.List.{list_all};
 ghost use Rattle.plural_serial.specs.declared.record_.Record.{Record};
-ghost use Rattle.plural_trace.specs.Least.{least, or_else};
-ghost use Rattle.plural_trace.specs.Rules.{is_of, record_for, is_same_end, is_same_record, is_recorded, has_instance, lacks_instance, breaks_records};
-ghost use Rattle.plural_trace.specs.Instances.{instance_cmp};
+ghost use Rattle.plural_trace.specs.Least.{least};
+ghost use Rattle.plural_trace.specs.Rules.{is_same_record, is_recorded, breaks_records};
+ghost use Rattle.plural_trace.specs.Instances.{record_at, StandFrom, StandByInstance};
 
 use crate::entry::Entry;
 use plural_bytes::Memory;
 use plural_serial::Record;
 use std::alloc::Global;
-use std::collections::{BTreeMap, BTreeSet};
 
 fn is_same_record(a: &Record, b: &Record) -> bool
     ensures { result ≡ is_same_record a.now b.now }
@@ -20,57 +17,46 @@ fn is_same_record(a: &Record, b: &Record) -> bool
     a == b
 }
 
-/// Keeps the record, where none of its instance is kept yet.
-fn keep(kept: &mut BTreeMap<(u32, u32), Record>, rec: &Record) -> Result<(), Memory>
-    ensures { OnOk result ((t k : ℕ) → tree.get instance_cmp kept.new (t, k) ≡ or_else (tree.get instance_cmp kept.old (t, k)) (if is_of t k rec.now then Some rec.now else None)) }
+/// Where the records of each task begin; 0 for a task that has none.
+fn begins(alloc: Global, records: &[Record], tasks: usize) -> Result<Vec<usize>, Memory>
+    requires tasks { All (λ (r : Record). r.t < tasks) records.now }
+    requires by_instance { StandByInstance records.now }
+    ensures long { IfOk result (λ v. length v.items ≡ tasks) }
+    ensures within { IfOk result (λ v. All (λ b. b ≤ length records.now) v.items) }
+    ensures begins { IfOk result (λ v. StandFrom (λ t. slice_index v.items t) records.now) }
 {
-    if !kept.contains_key(&(rec.t, rec.k)) {
-        kept.insert((rec.t, rec.k), *rec)?;
+    let mut begins = vec![in alloc; 0usize; tasks]?;
+    for i in 0..records.len() {
+        begins[records[i].t as usize] = i - records[i].k as usize;
     }
-    Ok(())
+    Ok(begins)
 }
 
-/// The record of each instance, by its task and its number.
-fn by_instance(alloc: Global, records: &[Record]) -> Result<BTreeMap<(u32, u32), Record>, Memory>
-    ensures { IfOk result (λ m. (t k : ℕ) → tree.get instance_cmp m (t, k) ≡ record_for t k records.now) }
+/// The place of a record among these, if it is one of them.
+fn place_of(records: &[Record], begins: &[usize], rec: &Record) -> Option<usize>
+    requires few { length records.now ≤ 65536 }
+    requires tasks { All (λ (r : Record). r.t < length begins.now) records.now }
+    requires within { All (λ b. b ≤ length records.now) begins.now }
+    requires begins { StandFrom (λ t. slice_index begins.now t) records.now }
+    ensures within { IfSome result (λ p. p < length records.now) }
+    ensures same { IfSome result (λ p. is_same_record rec.now (record_at records.now p) ≡ true) }
+    ensures none { IfNone result (is_recorded records.now rec.now ≡ false) }
 {
-    let mut kept = BTreeMap::new(alloc);
-    for rec in records {
-        keep(&mut kept, rec)?;
+    if rec.t as usize >= begins.len() {
+        return None;
     }
-    Ok(kept)
-}
-
-/// Whether the record is the one that is kept of its instance.
-fn is_recorded(kept: &BTreeMap<(u32, u32), Record>, rec: &Record) -> bool
-    ensures { (records : List Record) → ((t k : ℕ) → tree.get instance_cmp kept.now (t, k) ≡ record_for t k records) → result ≡ is_recorded records rec.now }
-{
-    match kept.get(&(rec.t, rec.k)) {
-        None => false,
-        Some(found) => is_same_record(rec, found),
+    let place = begins[rec.t as usize] + rec.k as usize;
+    if place < records.len() && is_same_record(rec, &records[place]) {
+        Some(place)
+    } else {
+        None
     }
 }
 
-/// Whether the instance is one of those seen.
-fn is_seen(seen: &BTreeSet<(u32, u32)>, rec: &Record) -> bool
-    ensures { result ≡ set.contains instance_cmp seen.now (rec.now.t, rec.now.k) }
+fn all_seen(seen: &[bool]) -> bool
+    ensures { result ≡ list_all (λ s. s) seen.now }
 {
-    seen.contains(&(rec.t, rec.k))
-}
-
-/// Whether one of the instances isn't among those seen.
-fn is_one_missing(records: &[Record], seen: &BTreeSet<(u32, u32)>) -> bool
-    ensures { result ≡ list_any (λ r. not (set.contains instance_cmp seen.now (r.t, r.k))) records.now }
-{
-    records.iter().any(|rec| !is_seen(seen, rec))
-}
-
-/// Whether the record isn't the one that is kept of its instance, or the instance is one of those seen.
-fn is_fault(kept: &BTreeMap<(u32, u32), Record>, seen: &BTreeSet<(u32, u32)>, rec: &Record) -> bool
-    ensures { (records : List Record) → ((t k : ℕ) → tree.get instance_cmp kept.now (t, k) ≡ record_for t k records)
-        → result ≡ (not (is_recorded records rec.now) || set.contains instance_cmp seen.now (rec.now.t, rec.now.k)) }
-{
-    !is_recorded(kept, rec) || is_seen(seen, rec)
+    seen.iter().all(|s| *s)
 }
 
 /// The first entry that is of no instance of these records, or whose record differs, or whose instance an earlier
@@ -79,21 +65,24 @@ pub(crate) fn record_fault(
     alloc: Global,
     records: &[Record],
     entries: &[Entry],
+    tasks: usize,
 ) -> Result<Option<usize>, Memory>
-    requires few { length entries.now < 2 ^ 31 }
+    requires few { length records.now ≤ 65536 }
+    requires tasks { All (λ (r : Record). r.t < tasks) records.now }
+    requires by_instance { StandByInstance records.now }
+    requires few_entries { length entries.now < 2 ^ 31 }
     ensures least { IfOk result (λ o. o ≡ least (breaks_records records.now entries.now) (length entries.now + 1)) }
     ensures within { IfOk result (λ o. IfSome o (λ i. i ≤ length entries.now)) }
 {
-    let kept = by_instance(alloc, records)?;
-    let mut seen = BTreeSet::new(alloc);
+    let begins = begins(alloc, records, tasks)?;
+    let mut seen = vec![in alloc; false; records.len()]?;
     for i in 0..entries.len() {
-        let rec = &entries[i].rec;
-        if is_fault(&kept, &seen, rec) {
-            return Ok(Some(i));
+        match place_of(records, &begins, &entries[i].rec) {
+            Some(place) if !seen[place] => seen[place] = true,
+            _ => return Ok(Some(i)),
         }
-        seen.insert((rec.t, rec.k))?;
     }
-    if is_one_missing(records, &seen) {
+    if !all_seen(&seen) {
         return Ok(Some(entries.len()));
     }
     Ok(None)

@@ -4,6 +4,8 @@ use Rattle.plural_map.specs.Value.{MapValue}
 use Rattle.plural_map.specs.Limits.{IsMap}
 use Rattle.plural_reach.specs.Tables.{IsReachOf}
 use Rattle.plural_trace.proofs.Judged.{records_within, outcomes_each, legal_by}
+use Rattle.plural_trace.proofs.Fits.{serial_fits}
+use Rattle.plural_trace.proofs.Stretches.{records_standing}
 use Rattle.plural_trace.proofs.judging.legal.Goals as goal
 
 pub judge-requires-clause-tasks : goal.judge-requires-clause-tasks
@@ -12,6 +14,18 @@ judge-requires-clause-tasks c =
     let limits = subst (λ (m : MapValue). IsMap m) c.map-map.ensures c.tasks.ensures.limits in
     let n : length c.tasks.result.now ≡ length p.map.tasks = ap length c.tasks.ensures.value ∙ ap (λ (m : MapValue). length m.tasks) c.map-map.ensures in
     rw (c.in_ok-answer.ensures.answer.records, n) (records_within p c.args.start.now limits)
+
+pub judge-requires-clause-by_instance : goal.judge-requires-clause-by_instance
+judge-requires-clause-by_instance c =
+    let p = c.args.program.now in
+    let limits = subst (λ (m : MapValue). IsMap m) c.map-map.ensures c.tasks.ensures.limits in
+    rw c.in_ok-answer.ensures.answer.records (records_standing p c.args.start.now limits)
+
+pub judge-requires-clause-few_records : goal.judge-requires-clause-few_records
+judge-requires-clause-few_records c =
+    let p = c.args.program.now in
+    let limits = subst (λ (m : MapValue). IsMap m) c.map-map.ensures c.tasks.ensures.limits in
+    (serial_fits p c.args.start.now c.in_ok-answer.answer limits c.in_ok-answer.ensures.answer).0
 
 pub judge-requires-clause-one_each : goal.judge-requires-clause-one_each
 judge-requires-clause-one_each c =

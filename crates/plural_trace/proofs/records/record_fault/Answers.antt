@@ -1,43 +1,49 @@
-use Rattle.std.proofs.Common.{◌≡◌, ◌+◌, ◌∙◌, ◌||◌, not, length, ap, sym, arith, ℕ}
-use Rattle.std.specs.BTreeSet as set
-use Rattle.std.proofs.lemmas.List.{take_all}
+use Rattle.std.proofs.Common.{◌≡◌, ◌∙◌, ◌+◌, ◌<◌, ℕ, Bool, List, length, get_or, not, ap, sym, arith, false}
+use Rattle.std.specs.List.{list_all}
+use Rattle.std.proofs.lemmas.List.{length-set, get_or_read}
 use Rattle.plural_trace.specs.Least.{least}
-use Rattle.plural_trace.specs.Rules.{entry_at, is_recorded, has_instance, breaks_records}
-use Rattle.plural_trace.specs.Instances.{instance_cmp}
+use Rattle.plural_trace.specs.Rules.{entry_at, breaks_records}
 use Rattle.plural_trace.proofs.Places.{least_next, least_found}
-use Rattle.plural_trace.proofs.Recorded.{record_test, missing_test, seen_more, seen_at, lacks_by}
+use Rattle.plural_trace.proofs.Standing.{breaks_when, breaks_by, breaks_behind, tells_more}
 use Rattle.plural_trace.proofs.records.record_fault.Goals as goal
+use Rattle.plural_trace.proofs.records.record_fault.Goals.{in_default-via-in-Some+else-not-index, in_default-via-in_default}
 
-pub returns-then-is_fault-clause-least : goal.returns-then-is_fault-clause-least
-returns-then-is_fault-clause-least c =
+pub returns-in_default-clause-least : goal.returns-in_default-clause-least
+returns-in_default-clause-least c =
     let rs = c.args.records.now in
     let es = c.args.entries.now in
     let i = c.loop-i.i in
-    let r = (entry_at es i).rec in
     least_found (breaks_records rs es) i (length es + 1) (let l = c.loop-i-test.true in omega arith) c.loop-i.invariant.none
-    (record_test rs es i c.loop-i-test.true ∙ ap (λ b. not (is_recorded rs r) || b) (sym (c.loop-i.invariant.seen r.t r.k)) ∙ sym (c.is_fault.ensures rs c.in_ok-kept.ensures) ∙ c.if-is_fault.true)
+    (elim c.in_default.branch [
+      | in_default-via-in-Some+else-not-index w ↦
+          let p = w.in-Some.place in
+          let h = w.in-Some.ensures in
+          breaks_by c.requires.by_instance.0 rs es i p c.loop-i.seen.items c.requires.by_instance.1 c.loop-i-test.true h.within h.same c.loop-i.invariant.tells
+          ∙ sym (get_or_read c.loop-i.seen.items p _ (let long = c.loop-i.invariant.long in let w = h.within in omega arith) w.index.ensures false) ∙ w.if-not-index.false
+      | in_default-via-in_default w ↦ breaks_when rs es i c.loop-i-test.true w.in_default.ensures.none
+    ])
 
 pub loop-i-preserved : goal.loop-i-preserved
 loop-i-preserved c =
     let rs = c.args.records.now in
     let es = c.args.entries.now in
     let i = c.loop-i.i in
-    let r = (entry_at es i).rec in
+    let p = c.in-Some.place in
     record {
+      long = simp length-set c.loop-i.invariant.long;
       none = least_next (breaks_records rs es) i c.loop-i.invariant.none
-          (record_test rs es i c.loop-i-test.true ∙ ap (λ b. not (is_recorded rs r) || b) (sym (c.loop-i.invariant.seen r.t r.k)) ∙ sym (c.is_fault.ensures rs c.in_ok-kept.ensures) ∙ c.if-is_fault.false);
-      seen = λ t k. c.in_ok-insert.ensures.updates.0 (t, k) ∙ seen_at r.t r.k t k _ ∙ rw (c.loop-i.invariant.seen t k) (sym (seen_more t k es i c.loop-i-test.true));
+          (breaks_by c.requires.by_instance.0 rs es i p c.loop-i.seen.items c.requires.by_instance.1 c.loop-i-test.true c.in-Some.ensures.within c.in-Some.ensures.same c.loop-i.invariant.tells ∙ sym (get_or_read c.loop-i.seen.items p _ (let long = c.loop-i.invariant.long in let w = c.in-Some.ensures.within in omega arith) c.index.ensures false) ∙ c.if-not-index.true);
+      tells = tells_more c.requires.by_instance.0 rs es i p c.loop-i.seen.items c.requires.by_instance.1 c.loop-i.invariant.long c.loop-i-test.true c.in-Some.ensures.within c.in-Some.ensures.same c.loop-i.invariant.tells;
     }
 
-pub returns-then-is_one_missing-clause-least : goal.returns-then-is_one_missing-clause-least
-returns-then-is_one_missing-clause-least c =
+pub returns-then-not-all_seen-clause-least : goal.returns-then-not-all_seen-clause-least
+returns-then-not-all_seen-clause-least c =
     let rs = c.args.records.now in
     let es = c.args.entries.now in
     let i = c.loop-i.i in
     let all : i ≡ length es = let a = c.loop-i-test.false in let b = c.loop-i.auto.i-end in omega arith in
-    let seen = λ (t k : ℕ). c.loop-i.invariant.seen t k ∙ ap (λ xs. has_instance t k xs) (take_all i es (omega arith)) in
     least_found (breaks_records rs es) (length es) (length es + 1) (omega arith) (ap (least (breaks_records rs es)) (sym all) ∙ c.loop-i.invariant.none)
-    (missing_test rs es ∙ sym (lacks_by rs es (λ t k. set.contains instance_cmp c.loop-i.seen (t, k)) seen) ∙ sym c.is_one_missing.ensures ∙ c.if-is_one_missing.true)
+    (breaks_behind rs es i c.loop-i.seen.items c.loop-i.invariant.long c.loop-i-test.false c.loop-i.invariant.tells ∙ ap not (ap (list_all (λ (s : Bool). s)) (sym c.deref-2.ensures.value) ∙ sym c.all_seen.ensures ∙ c.if-not-all_seen.true))
 
 pub returns-clause-least : goal.returns-clause-least
 returns-clause-least c =
@@ -45,6 +51,5 @@ returns-clause-least c =
     let es = c.args.entries.now in
     let i = c.loop-i.i in
     let all : i ≡ length es = let a = c.loop-i-test.false in let b = c.loop-i.auto.i-end in omega arith in
-    let seen = λ (t k : ℕ). c.loop-i.invariant.seen t k ∙ ap (λ xs. has_instance t k xs) (take_all i es (omega arith)) in
     sym (least_next (breaks_records rs es) (length es) (ap (least (breaks_records rs es)) (sym all) ∙ c.loop-i.invariant.none)
-    (missing_test rs es ∙ sym (lacks_by rs es (λ t k. set.contains instance_cmp c.loop-i.seen (t, k)) seen) ∙ sym c.is_one_missing.ensures ∙ c.if-is_one_missing.false))
+    (breaks_behind rs es i c.loop-i.seen.items c.loop-i.invariant.long c.loop-i-test.false c.loop-i.invariant.tells ∙ ap not (ap (list_all (λ (s : Bool). s)) (sym c.deref-2.ensures.value) ∙ sym c.all_seen.ensures ∙ c.if-not-all_seen.false)))
