@@ -1,4 +1,5 @@
 pub mod Printed
+pub mod Numbered
 pub mod Reading
 pub mod Places
 pub mod Latest

@@ -9,6 +9,7 @@ pub mod Logs
 pub mod Print
 pub mod Shape
 pub mod Spelled
+pub mod Numbers
 pub mod Faults
 pub mod Least
 pub mod Rules

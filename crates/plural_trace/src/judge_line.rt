@@ -1,17 +1,22 @@
 //! Whether a log line fits behind the lines before it.
-ghost use Rattle.std.specs.Prelude.{◌≡◌, ◌<◌, ◌≤◌, bytes_eq, length, false, IfErr, IfOk, Some, None};
-ghost use Rattle.std.specs.List.{list_any};
-ghost use Rattle.plural_map.specs.Rules.{is_between, has_task};
+ghost use Rattle.std.specs.Prelude.{◌≡◌, ◌<◌, ◌≤◌, ℕ, List, length, false, IfErr, IfOk, Some, None};
+ghost use Rattle.std.specs.BTreeMap.{get_by};
+ghost use Rattle.std.specs.Cmp.Lexicographic.{slice_cmp};
+ghost use Rattle.std.specs.Ordering.{nat_cmp};
+ghost use Rattle.plural_map.specs.Rules.{is_between};
 ghost use Rattle.plural_trace.specs.declared.fault.LogKind.TheVariants.{Form};
+ghost use Rattle.plural_trace.specs.Numbers.{number_for, task_of};
 ghost use Rattle.plural_trace.specs.Shape.{shape_of};
 ghost use Rattle.plural_trace.specs.Faults.{is_out_of_place, is_no_end, lacks_count, lacks_time, is_out_of_range, is_misnamed, is_too_many, least_kind, IsLineFault};
 
 use crate::fault::LogKind;
 use crate::line::{Counts, EndShape, LogLine, Times};
 use crate::log::Log;
+use crate::numbers::number_of;
 use crate::shape::shape_of;
 use plural_bytes::Name;
 use plural_map::Task;
+use std::collections::BTreeMap;
 
 fn is_out_of_place(tasks: usize, n: usize, line: &LogLine) -> bool
     ensures { result ≡ is_out_of_place tasks n line.now }
@@ -72,25 +77,27 @@ fn is_out_of_range(line: &LogLine) -> bool
     }
 }
 
-fn is_same(a: &Name, b: &Name) -> bool
-    ensures { result ≡ bytes_eq a.now b.now }
+/// The number of the task that a line names, where it is an entry's; the number of tasks where none has the name, and for
+/// other lines.
+fn task_of(tasks: &[Task], numbers: &BTreeMap<Name, u32>, line: &LogLine) -> u32
+    requires few { length tasks.now ≤ 256 }
+    requires numbers { (q : List ℕ) → get_by (λ k. slice_cmp nat_cmp q k) numbers.now ≡ number_for tasks.now q }
+    ensures { result ≡ task_of tasks.now line.now }
 {
-    a.bytes() == b.bytes()
+    match line {
+        LogLine::Run { name, .. } => number_of(tasks, numbers, name),
+        LogLine::First { .. } | LogLine::Task { .. } | LogLine::End => tasks.len() as u32,
+    }
 }
 
-fn has_task(tasks: &[Task], name: &Name) -> bool
-    ensures { result ≡ has_task tasks.now name.now }
-{
-    tasks.iter().any(|t| is_same(t.name(), name))
-}
-
-fn is_misnamed(tasks: &[Task], n: usize, line: &LogLine) -> bool
-    requires { is_out_of_place (length tasks.now) n line.now ≡ false }
+fn is_misnamed(tasks: &[Task], task: u32, n: usize, line: &LogLine) -> bool
+    requires task { task ≡ task_of tasks.now line.now }
+    requires place { is_out_of_place (length tasks.now) n line.now ≡ false }
     ensures { result ≡ is_misnamed tasks.now n line.now }
 {
     match line {
-        LogLine::Task { name, .. } => !is_same(tasks[n - 1].name(), name),
-        LogLine::Run { name, .. } => !has_task(tasks, name),
+        LogLine::Task { name, .. } => tasks[n - 1].name() != name,
+        LogLine::Run { .. } => task as usize == tasks.len(),
         LogLine::First { .. } | LogLine::End => false,
     }
 }
@@ -104,8 +111,10 @@ fn is_too_many(log: &Log, line: &LogLine) -> bool
     }
 }
 
-/// The fault of a line of a shape behind `n` lines that spell the log, if it has one.
-fn least_kind(tasks: &[Task], n: usize, log: &Log, line: &LogLine) -> Option<LogKind>
+/// The fault of a line of a shape behind `n` lines that spell the log, if it has one, by the number of the task that it
+/// names.
+fn least_kind(tasks: &[Task], task: u32, n: usize, log: &Log, line: &LogLine) -> Option<LogKind>
+    requires { task ≡ task_of tasks.now line.now }
     ensures { result ≡ least_kind tasks.now n log.now line.now }
 {
     if is_out_of_place(tasks.len(), n, line) {
@@ -114,7 +123,7 @@ fn least_kind(tasks: &[Task], n: usize, log: &Log, line: &LogLine) -> Option<Log
     if is_out_of_range(line) {
         return Some(LogKind::Number);
     }
-    if is_misnamed(tasks, n, line) {
+    if is_misnamed(tasks, task, n, line) {
         return Some(LogKind::Name);
     }
     if is_too_many(log, line) {
@@ -123,17 +132,34 @@ fn least_kind(tasks: &[Task], n: usize, log: &Log, line: &LogLine) -> Option<Log
     None
 }
 
+/// A log line without a fault, and the number of the task that it names, where it is an entry's.
+#[derive(Clone, Copy)]
+pub(crate) struct Sound {
+    pub line: LogLine,
+    pub task: u32,
+}
+
 /// The shape of a line behind `n` lines that spell the log, or its fault.
-pub(crate) fn checked(tasks: &[Task], n: usize, log: &Log, text: &[u8]) -> Result<LogLine, LogKind>
-    ensures shape { IfOk result (λ s. Some s ≡ shape_of text.now) }
-    ensures fine { IfOk result (λ s. least_kind tasks.now n log.now s ≡ None) }
+pub(crate) fn checked(
+    tasks: &[Task],
+    numbers: &BTreeMap<Name, u32>,
+    n: usize,
+    log: &Log,
+    text: &[u8],
+) -> Result<Sound, LogKind>
+    requires few { length tasks.now ≤ 256 }
+    requires numbers { (q : List ℕ) → get_by (λ k. slice_cmp nat_cmp q k) numbers.now ≡ number_for tasks.now q }
+    ensures shape { IfOk result (λ s. Some s.line ≡ shape_of text.now) }
+    ensures fine { IfOk result (λ s. least_kind tasks.now n log.now s.line ≡ None) }
+    ensures task { IfOk result (λ s. s.task ≡ task_of tasks.now s.line) }
     ensures fault { IfErr result (λ kind. IsLineFault tasks.now n log.now text.now kind) }
 {
-    match shape_of(text) {
-        None => Err(LogKind::Form),
-        Some(line) => match least_kind(tasks, n, log, &line) {
-            Some(kind) => Err(kind),
-            None => Ok(line),
-        },
+    let Some(line) = shape_of(text) else {
+        return Err(LogKind::Form);
+    };
+    let task = task_of(tasks, numbers, &line);
+    match least_kind(tasks, task, n, log, &line) {
+        Some(kind) => Err(kind),
+        None => Ok(Sound { line, task }),
     }
 }

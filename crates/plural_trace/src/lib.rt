@@ -17,6 +17,7 @@ mod judging;
 pub mod laws;
 mod line;
 mod log;
+mod numbers;
 mod order;
 mod printing;
 mod read;

@@ -1,12 +1,14 @@
 //! Reading log lines.
-ghost use Rattle.std.specs.Prelude.{◌≡◌, ◌≤◌, ◌<◌, bytes_eq, length, false, OnOk, IfOk, IfErr, MatchResult, position, Some};
+ghost use Rattle.std.specs.Prelude.{◌≡◌, ◌≤◌, ◌<◌, ℕ, List, length, false, OnOk, IfOk, IfErr, MatchResult};
 ghost use Rattle.std.specs.List.{All};
 ghost use Rattle.plural_bytes.specs.Faults.{IsFaultless};
 ghost use Rattle.plural_bytes.specs.Spelled.{text_lines};
 ghost use Rattle.plural_map.specs.Parts.{number_of};
-ghost use Rattle.plural_map.specs.Rules.{closed, has_task};
+ghost use Rattle.plural_map.specs.Rules.{closed};
+ghost use Rattle.plural_map.specs.Value.{TaskValue};
 ghost use Rattle.plural_trace.specs.declared.entry.Entry.{Entry};
 ghost use Rattle.plural_trace.specs.declared.fault.LogError.TheVariants.{Memory};
+ghost use Rattle.plural_trace.specs.Numbers.{task_of};
 ghost use Rattle.plural_trace.specs.Spelled.{end_value, entry_value, with_line, log_of};
 ghost use Rattle.plural_trace.specs.Faults.{is_no_end, is_out_of_range, Breaks, Faults};
 
@@ -15,30 +17,12 @@ use crate::fault::{LogError, LogKind};
 use crate::judge_line::checked;
 use crate::line::{Counts, EndShape, LogLine, Times};
 use crate::log::Log;
-use plural_bytes::{Line, Name};
+use crate::numbers::numbers;
+use plural_bytes::Line;
 use plural_core::End;
-use plural_map::{Map, Task};
+use plural_map::Map;
 use plural_serial::Record;
 use std::alloc::Global;
-
-fn is_same(a: &Name, b: &Name) -> bool
-    ensures { result ≡ bytes_eq a.now b.now }
-{
-    a.bytes() == b.bytes()
-}
-
-fn position_named(tasks: &[Task], name: &Name) -> Option<usize>
-    ensures { result ≡ position (λ t. bytes_eq t.name name.now) tasks.now }
-{
-    tasks.iter().position(|t| is_same(t.name(), name))
-}
-
-fn number_of(tasks: &[Task], name: &Name) -> usize
-    ensures number { result ≡ number_of name.now tasks.now }
-    ensures bound { result ≤ length tasks.now }
-{
-    position_named(tasks, name).unwrap_or(tasks.len())
-}
 
 fn end_value(end: EndShape) -> End
     requires { is_no_end end ≡ false }
@@ -55,20 +39,13 @@ fn end_value(end: EndShape) -> End
     }
 }
 
-fn entry_value(
-    tasks: &[Task],
-    name: &Name,
-    k: Option<u32>,
-    end: EndShape,
-    counts: Counts,
-    times: Times,
-) -> Entry
-    requires few { length tasks.now ≤ 256 }
+/// The entry of a line that names the task of this number.
+fn entry_value(task: u32, k: Option<u32>, end: EndShape, counts: Counts, times: Times) -> Entry
     requires end { is_no_end end ≡ false }
-    ensures { result ≡ entry_value tasks.now name.now k end counts times }
+    ensures { (tasks : List TaskValue) (name : List ℕ) → task ≡ number_of name tasks → result ≡ entry_value tasks name k end counts times }
 {
     let rec = Record {
-        t: number_of(tasks, name) as u32,
+        t: task,
         k: k.unwrap_or(0),
         end: end_value(end),
         instructions: counts.instructions.unwrap_or(0),
@@ -84,23 +61,22 @@ fn entry_value(
     }
 }
 
-/// Adds a line that has no fault.
-fn add(log: &mut Log, tasks: &[Task], line: &LogLine) -> Result<(), LogError>
-    requires few { length tasks.now ≤ 256 }
+/// Adds a line that has no fault, by the number of the task that it names.
+fn add(log: &mut Log, task: u32, line: &LogLine) -> Result<(), LogError>
     requires range { is_out_of_range line.now ≡ false }
-    ensures ok { OnOk result (log.new ≡ with_line tasks.now log.old line.now) }
+    ensures ok { OnOk result ((tasks : List TaskValue) → task ≡ task_of tasks line.now → log.new ≡ with_line tasks log.old line.now) }
     ensures err { IfErr result (λ e. e ≡ Memory) }
 {
     match *line {
         LogLine::First { cores } => log.set_cores(cores.unwrap_or(0)),
         LogLine::Task { outcome, .. } => log.add_outcome(outcome)?,
         LogLine::Run {
-            name,
             k,
             end,
             counts,
             times,
-        } => log.add_entry(entry_value(tasks, &name, k, end, counts, times))?,
+            ..
+        } => log.add_entry(entry_value(task, k, end, counts, times))?,
         LogLine::End => {}
     }
     Ok(())
@@ -118,10 +94,11 @@ pub fn read_log(alloc: Global, map: &Map, lines: &[Line<'_>], end: u32) -> Resul
     ensures tasks { IfOk result (λ log. All (λ (e : Entry). e.rec.t < length map.now.tasks) log.entries) }
 {
     let tasks = map.tasks();
+    let numbers = numbers(alloc, tasks)?;
     let mut log = Log::of(0, Vec::new(alloc), Vec::new(alloc));
     for (n, line) in lines.iter().enumerate() {
-        match checked(tasks, n, &log, line.text) {
-            Ok(shape) => add(&mut log, tasks, &shape)?,
+        match checked(tasks, &numbers, n, &log, line.text) {
+            Ok(sound) => add(&mut log, sound.task, &sound.line)?,
             Err(kind) => {
                 let line = line.number;
                 return Err(LogError::At { line, kind });
