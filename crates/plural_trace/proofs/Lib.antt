@@ -10,6 +10,7 @@ pub mod Judged
 pub mod SerialEntries
 pub mod Fits
 pub mod Tokens
+pub mod Words
 pub mod Again
 pub mod Ordered
 pub mod Sequenced

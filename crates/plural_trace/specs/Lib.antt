@@ -7,6 +7,7 @@ pub use Rattle.plural_reach.specs.Tables
 pub use Rattle.plural_reach.specs.Chains
 pub mod Logs
 pub mod Print
+pub mod Words
 pub mod Shape
 pub mod Spelled
 pub mod Numbers

@@ -1,11 +1,12 @@
 //! A log line by its tokens.
-ghost use Rattle.std.specs.Prelude.{◌≡◌, ◌<◌, ◌≤◌, ◌^◌, Some, None, MatchOption, bytes_eq, codes, [], ◌∷◌};
+ghost use Rattle.std.specs.Prelude.{◌≡◌, ℕ, true, List, Some, None, MatchOption, bytes_eq, codes, [], ◌∷◌};
 ghost use Rattle.plural_bytes.specs.Lines.{tokens};
 ghost use Rattle.plural_map.specs.Shape.{counted};
+ghost use Rattle.plural_trace.specs.Words.{is_word};
 ghost use Rattle.plural_trace.specs.Shape.{first_line, outcome_of, task_line, field, counts_of, times_of, trap_of, code_of, end_of, run_line, shape_of};
 
 use crate::line::{Counts, EndShape, LogLine, Times};
-use plural_bytes::{Name, NumberError, next_token, number};
+use plural_bytes::{Name, NumberError, next_token, number, trim_start};
 use plural_image::word_of;
 use plural_map::Outcome;
 
@@ -19,7 +20,7 @@ fn counted(text: &[u8]) -> Option<Option<u32>>
     }
 }
 
-fn is_word(text: &[u8], word: &[u8]) -> bool
+fn is_same(text: &[u8], word: &[u8]) -> bool
     ensures { result ≡ bytes_eq text.now word.now }
 {
     text == word
@@ -34,7 +35,7 @@ fn first_line(text: &[u8]) -> Option<LogLine>
     if next_token(rest).is_some() {
         return None;
     }
-    if !(is_word(version, b"1") && is_word(word, b"cores")) {
+    if !(is_same(version, b"1") && is_same(word, b"cores")) {
         return None;
     }
     let cores = counted(count)?;
@@ -44,9 +45,9 @@ fn first_line(text: &[u8]) -> Option<LogLine>
 fn ended(code: &[u8]) -> Option<Outcome>
     ensures { result ≡ outcome_of (codes "ended" ∷ code.now ∷ []) }
 {
-    if is_word(code, b"0") {
+    if is_same(code, b"0") {
         Some(Outcome::Ended0)
-    } else if is_word(code, b"1") {
+    } else if is_same(code, b"1") {
         Some(Outcome::Ended1)
     } else {
         None
@@ -56,9 +57,9 @@ fn ended(code: &[u8]) -> Option<Outcome>
 fn without_code(word: &[u8]) -> Option<Outcome>
     ensures { result ≡ outcome_of (word.now ∷ []) }
 {
-    if is_word(word, b"skipped") {
+    if is_same(word, b"skipped") {
         Some(Outcome::Skipped)
-    } else if is_word(word, b"failed") {
+    } else if is_same(word, b"failed") {
         Some(Outcome::Failed)
     } else {
         None
@@ -76,7 +77,7 @@ fn outcome_of(text: &[u8]) -> Option<Outcome>
     if next_token(rest).is_some() {
         return None;
     }
-    if !is_word(word, b"ended") {
+    if !is_same(word, b"ended") {
         return None;
     }
     ended(code)
@@ -91,15 +92,26 @@ fn task_line(text: &[u8]) -> Option<LogLine>
     Some(LogLine::Task { name, outcome })
 }
 
+/// What stands behind a word that is a text's first token.
+fn after_word<'a>(text: &'a [u8], word: &[u8]) -> Option<&'a [u8]>
+    requires { is_word word.now ≡ true }
+    ensures { MatchOption result ((ts : List (List ℕ)) → tokens text.now ≡ word.now ∷ ts → ⊥) (λ r. tokens text.now ≡ word.now ∷ tokens r.now) }
+{
+    let behind = trim_start(text).strip_prefix(word)?;
+    let rest = trim_start(behind);
+    if behind.is_empty() || rest.len() < behind.len() {
+        Some(rest)
+    } else {
+        None
+    }
+}
+
 /// The number behind a word, and what stands after it.
 fn field<'a>(text: &'a [u8], word: &[u8]) -> Option<(Option<u32>, &'a [u8])>
+    requires { is_word word.now ≡ true }
     ensures { MatchOption result (field word.now (tokens text.now) ≡ None) (λ r. field word.now (tokens text.now) ≡ Some (r.0, tokens r.1.now)) }
 {
-    let (found, rest) = next_token(text)?;
-    let (count, rest) = next_token(rest)?;
-    if !is_word(found, word) {
-        return None;
-    }
+    let (count, rest) = next_token(after_word(text, word)?)?;
     let count = counted(count)?;
     Some((count, rest))
 }
@@ -142,7 +154,7 @@ fn trap_of(text: &[u8]) -> Option<(EndShape, &[u8])>
     let (cause, rest) = next_token(text)?;
     let (word, rest) = next_token(rest)?;
     let (pc, rest) = next_token(rest)?;
-    if !is_word(word, b"pc") {
+    if !is_same(word, b"pc") {
         return None;
     }
     let cause = counted(cause)?;
@@ -154,9 +166,9 @@ fn code_of(text: &[u8]) -> Option<(EndShape, &[u8])>
     ensures { MatchOption result (code_of (tokens text.now) ≡ None) (λ r. code_of (tokens text.now) ≡ Some (r.0, tokens r.1.now)) }
 {
     let (code, rest) = next_token(text)?;
-    if is_word(code, b"0") {
+    if is_same(code, b"0") {
         Some((EndShape::Code0, rest))
-    } else if is_word(code, b"1") {
+    } else if is_same(code, b"1") {
         Some((EndShape::Code1, rest))
     } else {
         None
@@ -166,16 +178,14 @@ fn code_of(text: &[u8]) -> Option<(EndShape, &[u8])>
 fn end_of(text: &[u8]) -> Option<(EndShape, &[u8])>
     ensures { MatchOption result (end_of (tokens text.now) ≡ None) (λ r. end_of (tokens text.now) ≡ Some (r.0, tokens r.1.now)) }
 {
-    let (word, rest) = next_token(text)?;
-    if is_word(word, b"code") {
-        code_of(rest)
-    } else if is_word(word, b"trap") {
-        trap_of(rest)
-    } else if is_word(word, b"spent") {
-        Some((EndShape::Spent, rest))
-    } else {
-        None
+    if let Some(rest) = after_word(text, b"code") {
+        return code_of(rest);
     }
+    if let Some(rest) = after_word(text, b"trap") {
+        return trap_of(rest);
+    }
+    let rest = after_word(text, b"spent")?;
+    Some((EndShape::Spent, rest))
 }
 
 fn run_line(text: &[u8]) -> Option<LogLine>
@@ -205,11 +215,11 @@ pub(crate) fn shape_of(text: &[u8]) -> Option<LogLine>
         None => return Some(LogLine::End),
         Some(found) => found,
     };
-    if is_word(word, b"log") {
+    if is_same(word, b"log") {
         first_line(rest)
-    } else if is_word(word, b"task") {
+    } else if is_same(word, b"task") {
         task_line(rest)
-    } else if is_word(word, b"run") {
+    } else if is_same(word, b"run") {
         run_line(rest)
     } else {
         None
