@@ -1,9 +1,7 @@
 -- What the verdict stands on: the tasks of the serial run, and that any table of a map's order serves.
-use Rattle.std.proofs.Common.{◌≡◌, ℕ, zero, suc, ◌+◌, ◌<◌, Bool, true, false, not, ◌||◌, ◌&&◌, eqb, ltb, cond, List, [], ◌∷◌, length, map, take, get_or, Option, Some, None, refl, sym, ap, ◌∙◌, arith, eqb-true}
+use Rattle.std.proofs.Common.{◌≡◌, ℕ, zero, suc, ◌+◌, ◌<◌, Bool, true, false, not, ◌||◌, ◌&&◌, ltb, List, [], ◌∷◌, length, map, take, get_or, Option, Some, None, refl, sym, ap, ◌∙◌, arith}
 use Rattle.std.specs.Prelude.{fold, Result, Ok, Err, IfOk}
 use Rattle.std.specs.List.{All}
-use Rattle.std.specs.Option.{option_map_or}
-use Rattle.std.proofs.lemmas.Bool.{and_parts}
 use Rattle.std.proofs.lemmas.List.{length-set, length-replicate}
 use Rattle.std.proofs.lemmas.List.Elements.{All-append, All-push, All-head, All-tail, All-cons}
 use Rattle.plural_map.specs.declared.outcome.Outcome.{Outcome}
@@ -24,7 +22,7 @@ use Rattle.plural_trace.specs.declared.verdict.Verdict.{Verdict}
 use Rattle.plural_trace.specs.declared.verdict.Verdict.TheVariants.{Yes}
 use Rattle.plural_trace.specs.Logs.{LogValue}
 use Rattle.plural_trace.specs.Least.{least}
-use Rattle.plural_trace.specs.Rules.{no_entry, entry_at, is_of, record_for, is_same_record, is_recorded, has_instance, breaks_records, breaks_tickets, ends_late, breaks_order, breaks_cores, breaks_rise, is_same_outcome, breaks_outcomes, breaks_words}
+use Rattle.plural_trace.specs.Rules.{no_entry, entry_at, is_recorded, has_instance, breaks_records, breaks_tickets, ends_late, breaks_order, breaks_cores, breaks_rise, is_same_outcome, breaks_outcomes, breaks_words}
 use Rattle.plural_trace.specs.Verdicts.{or_verdict, judged, records_of, verdict_of}
 use Rattle.plural_trace.proofs.Places.{least_same, least_none}
 use Rattle.plural_trace.proofs.Recorded.{record_test, recorded_task}

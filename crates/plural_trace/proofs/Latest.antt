@@ -3,49 +3,47 @@ use Rattle.std.proofs.Common.{◌≡◌, ℕ, zero, suc, ◌+◌, ◌<◌, ◌�
 use Rattle.std.specs.Prelude.{All}
 use Rattle.std.proofs.lemmas.Bool.Decides.{nat_tests}
 use Rattle.std.proofs.lemmas.List.{get_or-set_same, get_or-set_other}
-use Rattle.std.proofs.lemmas.List.Elements.{All-cons, All-head, All-tail}
-use Rattle.plural_trace.specs.Rules.{no_entry, entry_at, ends_late, breaks_order, breaks_cores, overlaps, is_busy}
+use Rattle.std.proofs.lemmas.List.Elements.{All-head, All-tail}
+use Rattle.plural_trace.specs.Rules.{no_entry, entry_at, ends_late, breaks_order, breaks_cores}
 use Rattle.plural_trace.specs.Least.{least}
 use Rattle.plural_trace.proofs.Places.{least_same}
-use Rattle.plural_trace.specs.Busy.{is_busy_at, AllRise}
-use Rattle.std.specs.List.Sorted.{IsNonDecreasingBy}
-use Rattle.std.proofs.lemmas.List.{length-take}
-use Rattle.plural_trace.specs.Ends.{latest_by, latest_end, latest_before}
+use Rattle.plural_trace.specs.Busy.{is_busy_at}
+use Rattle.plural_trace.specs.Ends.{latest_end, latest_before}
 use Rattle.plural_trace.specs.declared.entry.Entry.{Entry}
 
 bool_cases : (b : Bool) → (b ≡ true) ⊎ (b ≡ false)
 bool_cases true = inl refl
 bool_cases false = inr refl
 
-latest_by-next : (key : Entry → ℕ) (t i : ℕ) (es : List Entry) → i < length es → latest_by key t (take (i + 1) es) ≡ max (latest_by key t (take i es)) (cond (eqb (key (entry_at es i)) t) ((entry_at es i).end_at + 1) 0)
-latest_by-next key t i es lt = ap (λ n. latest_by key t (take n es)) (let s : i + 1 ≡ suc i = omega arith in s) ∙ more t i es lt
+latest_end-next : (t i : ℕ) (es : List Entry) → i < length es → latest_end t (take (i + 1) es) ≡ max (latest_end t (take i es)) (cond (eqb (entry_at es i).rec.t t) ((entry_at es i).end_at + 1) 0)
+latest_end-next t i es lt = ap (λ n. latest_end t (take n es)) (let s : i + 1 ≡ suc i = omega arith in s) ∙ more t i es lt
   where
-    more : (t i : ℕ) (es : List Entry) → i < length es → latest_by key t (take (suc i) es) ≡ max (latest_by key t (take i es)) (cond (eqb (key (entry_at es i)) t) ((entry_at es i).end_at + 1) 0)
+    more : (t i : ℕ) (es : List Entry) → i < length es → latest_end t (take (suc i) es) ≡ max (latest_end t (take i es)) (cond (eqb (entry_at es i).rec.t t) ((entry_at es i).end_at + 1) 0)
     more t i [] lt = absurd (let h : ⊥ = omega arith in h)
     more t zero (e ∷ es) lt = omega arith
-    more t (suc i) (e ∷ es) lt = ap (λ n. max (cond (eqb (key e) t) (e.end_at + 1) 0) n) (more t i es (omega arith)) ∙ turned _ (latest_by key t (take i es)) _
+    more t (suc i) (e ∷ es) lt = ap (λ n. max (cond (eqb e.rec.t t) (e.end_at + 1) 0) n) (more t i es (omega arith)) ∙ turned _ (latest_end t (take i es)) _
       where
         turned : (a b c : ℕ) → max a (max b c) ≡ max (max a b) c
         turned a b c = omega arith
 
-pub ends_next : (key : Entry → ℕ) (es : List Entry) (ends : List ℕ) (i t n : ℕ) → length ends ≡ n → i < length es → (key (entry_at es i)) < n → t < n → ((t : ℕ) → t < n → get_or ends t 0 ≡ latest_by key t (take i es)) →
-    get_or (set ends (key (entry_at es i)) (max (get_or ends (key (entry_at es i)) 0) ((entry_at es i).end_at + 1))) t 0 ≡ latest_by key t (take (i + 1) es)
-ends_next key es ends i t n long lt own below h =
+pub ends_next : (es : List Entry) (ends : List ℕ) (i t n : ℕ) → length ends ≡ n → i < length es → (entry_at es i).rec.t < n → t < n → ((t : ℕ) → t < n → get_or ends t 0 ≡ latest_end t (take i es)) →
+    get_or (set ends (entry_at es i).rec.t (max (get_or ends (entry_at es i).rec.t 0) ((entry_at es i).end_at + 1))) t 0 ≡ latest_end t (take (i + 1) es)
+ends_next es ends i t n long lt own below h =
     let e = entry_at es i in
-    let m = max (get_or ends (key e) 0) (e.end_at + 1) in
+    let m = max (get_or ends e.rec.t 0) (e.end_at + 1) in
     ⊎_elim
-    (λ k. let is = eqb-true (key e) t k in
-    subst (λ t. get_or (set ends (key e) m) t 0 ≡ latest_by key t (take (i + 1) es)) is
-    (get_or-set_same ends (key e) m 0 (omega arith)
-    ∙ ap (λ x. max x (e.end_at + 1)) (h (key e) own)
-    ∙ ap (λ b. max (latest_by key (key e) (take i es)) (cond b (e.end_at + 1) 0)) (sym (eq-eqb (key e) (key e) refl))
-    ∙ sym (latest_by-next key (key e) i es lt)))
-    (λ k. get_or-set_other ends (key e) t m 0 (λ q. absurd (cc (sym k ∙ eq-eqb (key e) t (sym q))))
+    (λ k. let is = eqb-true e.rec.t t k in
+    subst (λ t. get_or (set ends e.rec.t m) t 0 ≡ latest_end t (take (i + 1) es)) is
+    (get_or-set_same ends e.rec.t m 0 (omega arith)
+    ∙ ap (λ x. max x (e.end_at + 1)) (h e.rec.t own)
+    ∙ ap (λ b. max (latest_end e.rec.t (take i es)) (cond b (e.end_at + 1) 0)) (sym (eq-eqb e.rec.t e.rec.t refl))
+    ∙ sym (latest_end-next e.rec.t i es lt)))
+    (λ k. get_or-set_other ends e.rec.t t m 0 (λ q. absurd (cc (sym k ∙ eq-eqb e.rec.t t (sym q))))
     ∙ h t below
-    ∙ (let z : latest_by key t (take i es) ≡ max (latest_by key t (take i es)) 0 = omega arith in z)
-    ∙ ap (λ b. max (latest_by key t (take i es)) (cond b (e.end_at + 1) 0)) (sym k)
-    ∙ sym (latest_by-next key t i es lt))
-    (bool_cases (eqb (key e) t))
+    ∙ (let z : latest_end t (take i es) ≡ max (latest_end t (take i es)) 0 = omega arith in z)
+    ∙ ap (λ b. max (latest_end t (take i es)) (cond b (e.end_at + 1) 0)) (sym k)
+    ∙ sym (latest_end-next t i es lt))
+    (bool_cases (eqb e.rec.t t))
 
 -- the same over the entries
 abbrev pub latest_of : (ℕ → ℕ → Bool) → (u : ℕ) → List Entry → (n : ℕ) → ℕ
@@ -96,46 +94,6 @@ pub order_test : (before : ℕ → ℕ → Bool) (es : List Entry) (ends bounds 
 order_test before es ends bounds i n all own h b =
     let e = entry_at es i in
     ap (λ m. ltb e.start m) (b e.rec.t own ∙ latest_same before e.rec.t ends es n h) ∙ late_test before e.rec.t e.start es n all
-
--- the latest end of a core decides what is busy, where the earlier start no later than this one ends
-busy_by : (f : Entry) (es : List Entry) → All (λ (e : Entry). e.start ≤ f.end_at) es → ltb f.start (latest_by (λ e. e.core) f.core es) ≡ is_busy f es
-busy_by f [] h = grind (arith, nat_tests)
-busy_by f (e ∷ es) h =
-    let own : e.start ≤ f.end_at = All-head (λ (e : Entry). e.start ≤ f.end_at) e es h in
-    test_max f.start (cond (eqb e.core f.core) (e.end_at + 1) 0) (latest_by (λ e. e.core) f.core es)
-    ∙ ap (λ b. b || ltb f.start (latest_by (λ e. e.core) f.core es)) (test_one f.start e.end_at (eqb e.core f.core) ∙ ap (λ b. eqb e.core f.core && b) (one_side e.end_at f.start f.end_at e.start own))
-    ∙ ap (λ b. (eqb e.core f.core && overlaps e f) || b) (busy_by f es (All-tail (λ (e : Entry). e.start ≤ f.end_at) e es h))
-  where
-    one_side : (a b c d : ℕ) → d ≤ c → not (ltb a b) ≡ (not (ltb a b) && not (ltb c d))
-    one_side a b c d le = grind (arith, nat_tests)
-
-pub scan_test : (es : List Entry) (until : List ℕ) (i : ℕ) → AllRise es → IsNonDecreasingBy (λ (e : Entry). e.start) es → i < length es → get_or until (entry_at es i).core 0 ≡ latest_by (λ e. e.core) (entry_at es i).core (take i es) →
-    ltb (entry_at es i).start (get_or until (entry_at es i).core 0) ≡ is_busy_at es i
-scan_test es until i rise sorted lt h =
-    let f = entry_at es i in
-    ap (λ m. ltb f.start m) h
-    ∙ busy_by f (take i es) (λ k d below.
-    let k_i : k < i = omega (arith, length-take i es) in
-    let le : (get_or es k d).start ≤ (get_or es i d).start = sorted k i d (omega arith) lt in
-    let same : get_or es i d ≡ f = get_or_any es i d no_entry lt in
-    let own = rise i no_entry lt in
-    rw (get_or_take es i k d k_i) (let s = ap (λ (e : Entry). e.start) same in omega arith))
-  where
-    get_or_any : (es : List Entry) (i : ℕ) (d d' : Entry) → i < length es → get_or es i d ≡ get_or es i d'
-    get_or_any [] i d d' lt = absurd (let h : ⊥ = omega arith in h)
-    get_or_any (e ∷ es) zero d d' lt = refl
-    get_or_any (e ∷ es) (suc i) d d' lt = get_or_any es i d d' (omega arith)
-
-    get_or_take : (es : List Entry) (i k : ℕ) (d : Entry) → k < i → get_or (take i es) k d ≡ get_or es k d
-    get_or_take es zero k d lt = absurd (let h : ⊥ = omega arith in h)
-    get_or_take [] (suc i) k d lt = refl
-    get_or_take (e ∷ es) (suc i) zero d lt = refl
-    get_or_take (e ∷ es) (suc i) (suc k) d lt = get_or_take es i k d (omega arith)
-
-pub own_take : (P : Entry → Type 0) (es : List Entry) (m : ℕ) → m ≤ length es → ((k : ℕ) (d : Entry) → k < m → P (get_or es k d)) → All P (take m es)
-own_take P es zero le h = λ k d lt. absurd (let h : ⊥ = omega arith in h)
-own_take P [] (suc m) le h = absurd (let h : ⊥ = omega arith in h)
-own_take P (e ∷ es) (suc m) le h = All-cons P e (take m es) (h 0 e (omega arith)) (own_take P es m (omega arith) (λ k d lt. h (suc k) d (omega arith)))
 
 pub cores_below : (cores : ℕ) (es : List Entry) (m : ℕ) → ((k : ℕ) (d : Entry) → k < m → (get_or es k d).core < cores) → least (breaks_cores cores es) m ≡ least (is_busy_at es) m
 cores_below cores es m own =

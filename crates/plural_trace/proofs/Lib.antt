@@ -3,7 +3,7 @@ pub mod Numbered
 pub mod Reading
 pub mod Places
 pub mod Latest
-pub mod Crowds
+pub mod Swept
 pub mod Recorded
 pub mod Standing
 pub mod Judged

@@ -1,9 +1,8 @@
 -- Looking for the least place by going up.
 use Rattle.std.proofs.Common.{◌≡◌, ℕ, zero, suc, ◌+◌, ◌-◌, ◌*◌, ◌<◌, ◌≤◌, Bool, true, false, not, ◌||◌, eqb, ltb, cond, List, [], ◌∷◌, length, take, set, get_or, Option, Some, None, refl, sym, ap, ◌∙◌, arith, eqb-true}
-use Rattle.std.specs.Prelude.{is_none}
+use Rattle.std.specs.List.{All}
 use Rattle.std.proofs.lemmas.List.{length-set}
 use Rattle.std.proofs.lemmas.Bool.Decides.{nat_tests}
-use Rattle.plural_trace.specs.Busy.{AllRise}
 use Rattle.std.proofs.Common.{◌⊎◌, inl, inr, ⊎_elim}
 use Rattle.plural_trace.specs.Least.{least, or_else}
 use Rattle.plural_trace.specs.Rules.{no_entry, entry_at, is_drawn, breaks_tickets}
@@ -20,6 +19,11 @@ at_least p i (suc d) e t = ap (least p) (let s : suc i + suc d ≡ suc (suc i + 
 
 pub least_found : (p : ℕ → Bool) (i n : ℕ) → i < n → least p i ≡ None → p i ≡ true → Some i ≡ least p n
 least_found p i n lt e t = sym (at_least p i (n - suc i) e t) ∙ ap (least p) (let s : suc i + (n - suc i) ≡ n = omega arith in s)
+
+-- a test that holds nowhere
+pub none_at_all : (p : ℕ → Bool) (n : ℕ) → ((i : ℕ) → i < n → p i ≡ false) → least p n ≡ None
+none_at_all p zero h = refl
+none_at_all p (suc n) h = ap (λ (o : Option ℕ). or_else o (cond (p n) (Some n) None)) (none_at_all p n (λ i l. h i (omega arith))) ∙ ap (λ b. cond b (Some n) None) (h n (omega arith))
 
 -- one more entry
 pub is_drawn-next : (x i : ℕ) (es : List Entry) → i < length es → is_drawn x (take (i + 1) es) ≡ (is_drawn x (take i es) || (eqb (entry_at es i).start x || eqb (entry_at es i).end_at x))
@@ -57,7 +61,7 @@ tickets_test es marks i h =
     let y : e.end_at < 2 * length es = below_when e.end_at (2 * length es) b in
     (h e.start (omega arith), h e.end_at y))
 
-fits_when : (es : List Entry) (i : ℕ) → breaks_tickets es i ≡ false → ((entry_at es i).start < (entry_at es i).end_at) × ((entry_at es i).end_at < 2 * length es)
+pub fits_when : (es : List Entry) (i : ℕ) → breaks_tickets es i ≡ false → ((entry_at es i).start < (entry_at es i).end_at) × ((entry_at es i).end_at < 2 * length es)
 fits_when es i e =
     let o = or_none _ _ _ _ e in
     (below_when (entry_at es i).start (entry_at es i).end_at o.0, below_when (entry_at es i).end_at (2 * length es) o.1)
@@ -99,14 +103,6 @@ marks_next es marks i x room lt fine below h =
     mark_two marks (entry_at es i).start (entry_at es i).end_at x (omega arith) (omega arith)
     ∙ ap (λ m. m || (eqb (entry_at es i).start x || eqb (entry_at es i).end_at x)) h ∙ sym (is_drawn-next x i es lt)
 
-pub last_step : (p : ℕ → Bool) (n : ℕ) → least p n ≡ None → is_none (least p (suc n)) ≡ false → p n ≡ true
-last_step p n e f = ends (least p n) (p n) n e f
-  where
-    ends : (o : Option ℕ) (b : Bool) (n : ℕ) → o ≡ None → is_none (or_else o (cond b (Some n) None)) ≡ false → b ≡ true
-    ends (Some i) b n e f = absurd (cc e)
-    ends None true n e f = refl
-    ends None false n e f = absurd (cc f)
-
 -- tests that agree below n have one least place there
 pub least_same : (p q : ℕ → Bool) (n : ℕ) → ((i : ℕ) → i < n → p i ≡ q i) → least p n ≡ least q n
 least_same p q zero h = refl
@@ -141,6 +137,10 @@ least_none p i n lt e = ⊎_elim (λ t. absurd (clash p i n lt t e)) (λ f. f) (
     clash p i (suc n) lt t e =
         let f = first p n e in
         ⊎_elim (λ k. let s : p i ≡ false = ap p (eqb-true i n k) ∙ f.1 in cc (sym t ∙ s)) (λ k. clash p i n (grind (arith, nat_tests)) t f.0) (bool_cases (eqb i n))
+
+-- Each interval starts no later than it ends.
+abbrev pub AllRise : List Entry → Type 0
+AllRise es = All (λ (e : Entry). e.start ≤ e.end_at) es
 
 pub rise_when : (es : List Entry) → least (breaks_tickets es) (length es) ≡ None → AllRise es
 rise_when es e = λ k d lt.

@@ -1,5 +1,5 @@
 -- The log of a serial run is legal.
-use Rattle.std.proofs.Common.{◌≡◌, ℕ, zero, suc, ◌+◌, ◌-◌, ◌*◌, ◌<◌, ◌≤◌, Bool, true, false, not, ◌||◌, ◌&&◌, eqb, ltb, cond, List, [], ◌∷◌, length, map, take, get_or, Option, Some, None, refl, sym, ap, ◌∙◌, arith, eqb-true, inl, inr}
+use Rattle.std.proofs.Common.{◌≡◌, ℕ, zero, suc, ◌+◌, ◌-◌, ◌*◌, ◌<◌, ◌≤◌, Bool, true, false, not, ◌||◌, ◌&&◌, eqb, ltb, List, [], ◌∷◌, length, map, take, get_or, Some, refl, sym, ap, ◌∙◌, arith, eqb-true, inl, inr}
 use Rattle.std.specs.Prelude.{slice_index}
 use Rattle.std.specs.List.{All, list_any}
 use Rattle.std.specs.Option.{option_map_or}
@@ -18,20 +18,14 @@ use Rattle.plural_serial.specs.declared.record_.Record.{Record}
 use Rattle.plural_serial.specs.Answer.{AnswerValue}
 use Rattle.plural_trace.specs.declared.entry.Entry.{Entry}
 use Rattle.plural_trace.specs.declared.verdict.Verdict.TheVariants.{Yes}
-use Rattle.plural_trace.specs.Least.{least, or_else}
 use Rattle.plural_trace.specs.Rules.{no_entry, entry_at, is_of, record_for, is_same_end, is_same_record, is_recorded, has_instance, lacks_instance, breaks_records, is_drawn, breaks_tickets, ends_late, breaks_order, is_busy, overlaps, breaks_cores, breaks_rise, is_same_outcome, breaks_outcomes, breaks_words}
 use Rattle.plural_trace.specs.SerialLog.{serial_entry, serial_entries, serial_log}
 use Rattle.plural_trace.specs.Verdicts.{judged}
 use Rattle.plural_trace.specs.Laws.{SerialIsLegal}
+use Rattle.plural_trace.proofs.Places.{none_at_all}
 use Rattle.plural_trace.proofs.Recorded.{record_test, missing_test}
 use Rattle.plural_trace.proofs.Judged.{outcome_test, records_within}
 use Rattle.plural_trace.proofs.Sequenced.{IsLater, InOrder, records_in_order}
-
--- ---- where a test holds nowhere
-
-none_at_all : (p : ℕ → Bool) (n : ℕ) → ((i : ℕ) → i < n → p i ≡ false) → least p n ≡ None
-none_at_all p zero h = refl
-none_at_all p (suc n) h = ap (λ (o : Option ℕ). or_else o (cond (p n) (Some n) None)) (none_at_all p n (λ i l. h i (omega arith))) ∙ ap (λ b. cond b (Some n) None) (h n (omega arith))
 
 no_record : Record
 no_record = no_entry.rec

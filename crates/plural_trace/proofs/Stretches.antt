@@ -1,5 +1,5 @@
 -- The records of a serial run stand by the numbers of their instances.
-use Rattle.std.proofs.Common.{◌≡◌, ℕ, zero, suc, ◌+◌, ◌-◌, ◌<◌, ◌≤◌, eqb, cond, List, [], ◌∷◌, ◌++◌, length, map, drop, get_or, refl, sym, ap, subst, ◌∙◌, arith, inl, inr}
+use Rattle.std.proofs.Common.{◌≡◌, ℕ, zero, suc, ◌+◌, ◌-◌, ◌<◌, eqb, cond, List, [], ◌∷◌, ◌++◌, length, drop, get_or, refl, sym, ap, subst, ◌∙◌, arith, inl, inr}
 use Rattle.std.specs.Prelude.{fold, slice_index}
 use Rattle.std.specs.List.{All}
 use Rattle.std.proofs.lemmas.Bool.{cases_lt, eq-eqb, ne_eqb}
@@ -15,7 +15,7 @@ use Rattle.plural_serial.specs.Program.{ProgramValue, task_at}
 use Rattle.plural_serial.specs.Serial.{Started, Run, instances, with_task, by_decision, opening, serial_of}
 use Rattle.plural_serial.specs.Answer.{record_of}
 use Rattle.plural_trace.specs.Rules.{no_entry}
-use Rattle.plural_trace.specs.Instances.{record_at, StandFrom, StandByInstance}
+use Rattle.plural_trace.specs.Instances.{StandByInstance}
 use Rattle.plural_trace.specs.Verdicts.{records_of}
 use Rattle.plural_trace.proofs.Ordered.{places_differ}
 use Rattle.plural_trace.proofs.Sequenced.{IsPlaced, IsRun, task_run}

@@ -1,6 +1,6 @@
 -- A word that a text begins with is its first token where a blank or nothing follows.
-use Rattle.std.proofs.Common.{◌≡◌, ℕ, suc, ◌<◌, ◌≤◌, Bool, true, false, List, [], ◌∷◌, ◌++◌, length, take, drop, refl, sym, ap, subst, ◌∙◌, arith, ◌⊎◌, inl, inr}
-use Rattle.std.specs.Prelude.{not, ◌&&◌, bytes_eq, filter}
+use Rattle.std.proofs.Common.{◌≡◌, ℕ, suc, ◌<◌, ◌≤◌, Bool, true, false, List, [], ◌∷◌, ◌++◌, length, take, drop, refl, sym, ap, ◌∙◌, arith, ◌⊎◌, inl, inr}
+use Rattle.std.specs.Prelude.{not, bytes_eq, filter}
 use Rattle.std.specs.List.{list_all, slice_split, onto_first}
 use Rattle.std.proofs.lemmas.Bool.{and_parts, not-true, lt-ltb, ltb-true, cases_lt, cond-true, cond-false}
 use Rattle.std.proofs.lemmas.List.{take-append-drop, length-append, append-nil, nil_from_length}

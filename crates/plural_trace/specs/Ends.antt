@@ -2,14 +2,10 @@
 use Rattle.std.specs.Prelude.{ℕ, zero, suc, ◌+◌, max, ◌==◌, Bool, if◌then◌else◌, List, [], ◌∷◌, slice_index}
 use Rattle.plural_trace.specs.declared.entry.Entry.{Entry}
 
--- The latest end, plus one, of the entries of which the key is t; 0 where there is none.
-abbrev pub latest_by : (Entry → ℕ) → ℕ → List Entry → ℕ
-latest_by key t [] = 0
-latest_by key t (e ∷ es) = max (if key e == t then e.end_at + 1 else 0) (latest_by key t es)
-
 -- The latest end, plus one, of the entries of task t; 0 where there is none.
 abbrev pub latest_end : ℕ → List Entry → ℕ
-latest_end t es = latest_by (λ (e : Entry). e.rec.t) t es
+latest_end t [] = 0
+latest_end t (e ∷ es) = max (if e.rec.t == t then e.end_at + 1 else 0) (latest_end t es)
 
 -- The greatest of these ends among the tasks below n that come before task u; 0 where there is none.
 abbrev pub latest_before : (ℕ → ℕ → Bool) → (u : ℕ) → List ℕ → (n : ℕ) → ℕ

@@ -1,73 +1,65 @@
 //! Rule 4: cores, and the intervals of each.
-ghost use Rattle.std.specs.Prelude.{◌≡◌, ℕ, ◌<◌, ◌≤◌, All, Option, is_none, length, slice_index_or, IfOk, IfSome};
-ghost use Rattle.std.specs.List.Sorted.{IsNonDecreasingBy};
+ghost use Rattle.std.specs.Prelude.{◌≡◌, ℕ, ◌*◌, ◌^◌, ◌<◌, ◌≤◌, None, length, slice_index, slice_index_or, IfOk, IfSome};
 ghost use Rattle.plural_trace.specs.declared.entry.Entry.{Entry};
 ghost use Rattle.plural_trace.specs.Least.{least};
-ghost use Rattle.plural_trace.specs.Rules.{breaks_cores, entry_at};
-ghost use Rattle.plural_trace.specs.Busy.{is_busy_at, AllRise};
+ghost use Rattle.plural_trace.specs.Rules.{breaks_cores, breaks_tickets, entry_at};
+ghost use Rattle.plural_trace.specs.Busy.{is_busy_at};
 
 use crate::entry::Entry;
 use plural_bytes::Memory;
 use std::alloc::Global;
 
-/// Whether no two intervals of one core overlap, of entries by rising start.
-fn scan(alloc: Global, sorted: &[Entry], cores: usize) -> Result<bool, Memory>
-    requires rise { AllRise sorted.now }
-    requires sorted { IsNonDecreasingBy (λ (e : Entry). e.start) sorted.now }
-    requires cores { All (λ (e : Entry). e.core < cores) sorted.now }
-    ensures { IfOk result (λ b. b ≡ is_none (least (is_busy_at sorted.now) (length sorted.now))) }
-{
-    let mut until = vec![in alloc; 0u64; cores]?;
-    for i in 0..sorted.len() {
-        let core = sorted[i].core as usize;
-        if (sorted[i].start as u64) < until[core] {
-            return Ok(false);
-        }
-        let end = sorted[i].end_at as u64 + 1;
-        until[core] = until[core].max(end);
-    }
-    Ok(true)
-}
-
-/// Whether no two intervals of one core overlap, of the first m entries.
-fn is_free(alloc: Global, entries: &[Entry], m: usize, cores: usize) -> Result<bool, Memory>
+/// At each ticket the entry, of the first m, that starts there; m where none does.
+fn starts(alloc: Global, entries: &[Entry], m: usize) -> Result<Vec<usize>, Memory>
+    requires few { length entries.now < 2 ^ 31 }
     requires m { m ≤ length entries.now }
-    requires rise { AllRise entries.now }
-    requires cores { (k : ℕ) (d : Entry) → k < m → (slice_index_or entries.now k d).core < cores }
-    ensures { IfOk result (λ b. b ≡ is_none (least (is_busy_at entries.now) m)) }
+    requires tickets { least (breaks_tickets entries.now) (length entries.now) ≡ None }
+    ensures long { IfOk result (λ v. length v.items ≡ 2 * length entries.now) }
+    ensures there { IfOk result (λ v. (s : ℕ) → s < 2 * length entries.now → slice_index v.items s < m → (entry_at entries.now (slice_index v.items s)).start ≡ s) }
+    ensures each { IfOk result (λ v. (k : ℕ) → k < m → slice_index v.items (entry_at entries.now k).start ≡ k) }
 {
-    let mut sorted = Vec::from_slice(alloc, &entries[..m])?;
-    sorted.sort_by_key(|e| e.start)?;
-    scan(alloc, &sorted, cores)
+    let mut starts = vec![in alloc; m; 2 * entries.len()]?;
+    for i in 0..m {
+        starts[entries[i].start as usize] = i;
+    }
+    Ok(starts)
 }
 
 /// The first of the first m entries whose interval overlaps an earlier one of its core.
+///
+/// Of each core the entry that started last is known, by rising tickets. Entries that aren't before the first found no
+/// longer count, and of the others no two of a core overlap, so that a new one can only meet the last.
 fn busy_fault(
     alloc: Global,
     entries: &[Entry],
     m: usize,
     cores: usize,
 ) -> Result<Option<usize>, Memory>
+    requires few { length entries.now < 2 ^ 31 }
     requires m { m ≤ length entries.now }
-    requires rise { AllRise entries.now }
+    requires tickets { least (breaks_tickets entries.now) (length entries.now) ≡ None }
     requires cores { (k : ℕ) (d : Entry) → k < m → (slice_index_or entries.now k d).core < cores }
     ensures least { IfOk result (λ o. o ≡ least (is_busy_at entries.now) m) }
     ensures within { IfOk result (λ o. IfSome o (λ i. i < m)) }
 {
-    if is_free(alloc, entries, m, cores)? {
-        return Ok(None);
-    }
-    let mut low = 0;
-    let mut high = m;
-    while low + 1 < high {
-        let middle = low + (high - low) / 2;
-        if is_free(alloc, entries, middle, cores)? {
-            low = middle;
+    let starts = starts(alloc, entries, m)?;
+    let mut last = vec![in alloc; m; cores]?;
+    let mut first = m;
+    for ticket in 0..starts.len() {
+        let i = starts[ticket];
+        if i >= first {
+            continue;
+        }
+        let core = entries[i].core as usize;
+        let j = last[core];
+        if j < first && entries[j].end_at >= entries[i].start {
+            first = i.max(j);
+            last[core] = i.min(j);
         } else {
-            high = middle;
+            last[core] = i;
         }
     }
-    Ok(Some(low))
+    if first < m { Ok(Some(first)) } else { Ok(None) }
 }
 
 /// The first entry whose core is no core, or the number of entries.
@@ -90,7 +82,8 @@ pub(crate) fn core_fault(
     entries: &[Entry],
     cores: usize,
 ) -> Result<Option<usize>, Memory>
-    requires rise { AllRise entries.now }
+    requires few { length entries.now < 2 ^ 31 }
+    requires tickets { least (breaks_tickets entries.now) (length entries.now) ≡ None }
     ensures least { IfOk result (λ o. o ≡ least (breaks_cores cores entries.now) (length entries.now)) }
     ensures within { IfOk result (λ o. IfSome o (λ i. i < length entries.now)) }
 {

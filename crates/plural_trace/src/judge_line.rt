@@ -134,7 +134,7 @@ fn least_kind(tasks: &[Task], task: u32, n: usize, log: &Log, line: &LogLine) ->
 
 /// A log line without a fault, and the number of the task that it names, where it is an entry's.
 #[derive(Clone, Copy)]
-pub(crate) struct Sound {
+pub(crate) struct FaultlessLine {
     pub line: LogLine,
     pub task: u32,
 }
@@ -146,7 +146,7 @@ pub(crate) fn checked(
     n: usize,
     log: &Log,
     text: &[u8],
-) -> Result<Sound, LogKind>
+) -> Result<FaultlessLine, LogKind>
     requires few { length tasks.now ≤ 256 }
     requires numbers { (q : List ℕ) → get_by (λ k. slice_cmp nat_cmp q k) numbers.now ≡ number_for tasks.now q }
     ensures shape { IfOk result (λ s. Some s.line ≡ shape_of text.now) }
@@ -160,6 +160,6 @@ pub(crate) fn checked(
     let task = task_of(tasks, numbers, &line);
     match least_kind(tasks, task, n, log, &line) {
         Some(kind) => Err(kind),
-        None => Ok(Sound { line, task }),
+        None => Ok(FaultlessLine { line, task }),
     }
 }

@@ -98,7 +98,7 @@ pub fn read_log(alloc: Global, map: &Map, lines: &[Line<'_>], end: u32) -> Resul
     let mut log = Log::of(0, Vec::new(alloc), Vec::new(alloc));
     for (n, line) in lines.iter().enumerate() {
         match checked(tasks, &numbers, n, &log, line.text) {
-            Ok(sound) => add(&mut log, sound.task, &sound.line)?,
+            Ok(found) => add(&mut log, found.task, &found.line)?,
             Err(kind) => {
                 let line = line.number;
                 return Err(LogError::At { line, kind });

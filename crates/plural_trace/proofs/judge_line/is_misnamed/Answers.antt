@@ -1,4 +1,4 @@
-use Rattle.std.proofs.Common.{◌≡◌, ◌∙◌, ℕ, List, length, eqb, ap}
+use Rattle.std.proofs.Common.{◌∙◌, length, eqb, ap}
 use Rattle.plural_trace.specs.Numbers.{task_of}
 use Rattle.plural_trace.specs.declared.line.LogLine.{LogLine}
 use Rattle.plural_trace.proofs.Numbered.{misnamed_by}

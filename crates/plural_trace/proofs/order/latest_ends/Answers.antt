@@ -1,7 +1,6 @@
 use Rattle.std.proofs.Common.{◌≡◌, ◌∙◌, ◌+◌, ap, max, get_or, set, arith}
 use Rattle.std.proofs.lemmas.List.{length-set, get_or_read}
 use Rattle.plural_trace.specs.Rules.{no_entry, entry_at}
-use Rattle.plural_trace.specs.declared.entry.Entry.{Entry}
 use Rattle.plural_trace.proofs.Latest.{ends_next}
 use Rattle.plural_trace.proofs.order.latest_ends.Goals as goal
 
@@ -15,5 +14,5 @@ loop-i-preserved c =
     let is : c.max.result ≡ max (get_or l.ends.items e.rec.t 0) (e.end_at + 1) = c.max.ensures ∙ ap (λ x. max x (e.end_at + 1)) read in
     record {
       long = simp length-set l.invariant.long;
-      ends = λ t below. ap (λ m. get_or (set l.ends.items e.rec.t m) t 0) is ∙ ends_next (λ (e : Entry). e.rec.t) es l.ends.items l.i t c.args.tasks l.invariant.long c.loop-i-test.true own below l.invariant.ends;
+      ends = λ t below. ap (λ m. get_or (set l.ends.items e.rec.t m) t 0) is ∙ ends_next es l.ends.items l.i t c.args.tasks l.invariant.long c.loop-i-test.true own below l.invariant.ends;
     }

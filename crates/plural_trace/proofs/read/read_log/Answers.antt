@@ -7,7 +7,7 @@ returns-in-Err-clause-answer c =
 
 pub loop-n-preserved : goal.loop-n-preserved
 loop-n-preserved c =
-    reads_more c.args.map.now.tasks c.args.lines.now c.loop-n.n _ _ _ c.in-Ok.sound.line c.loop-n-test.true c.loop-n.invariant c.in-Ok.ensures.shape (rw c.tasks-tasks.ensures.value at c.in-Ok.ensures.fine)
+    reads_more c.args.map.now.tasks c.args.lines.now c.loop-n.n _ _ _ c.in-Ok.found.line c.loop-n-test.true c.loop-n.invariant c.in-Ok.ensures.shape (rw c.tasks-tasks.ensures.value at c.in-Ok.ensures.fine)
     (c.in_ok-add-in-Ok.ensures.ok c.args.map.now.tasks (rw c.tasks-tasks.ensures.value at c.in-Ok.ensures.task))
 
 pub returns-clause-answer : goal.returns-clause-answer

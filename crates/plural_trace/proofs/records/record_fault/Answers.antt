@@ -1,8 +1,8 @@
-use Rattle.std.proofs.Common.{◌≡◌, ◌∙◌, ◌+◌, ◌<◌, ℕ, Bool, List, length, get_or, not, ap, sym, arith, false}
+use Rattle.std.proofs.Common.{◌≡◌, ◌∙◌, ◌+◌, Bool, length, not, ap, sym, arith, false}
 use Rattle.std.specs.List.{list_all}
 use Rattle.std.proofs.lemmas.List.{length-set, get_or_read}
 use Rattle.plural_trace.specs.Least.{least}
-use Rattle.plural_trace.specs.Rules.{entry_at, breaks_records}
+use Rattle.plural_trace.specs.Rules.{breaks_records}
 use Rattle.plural_trace.proofs.Places.{least_next, least_found}
 use Rattle.plural_trace.proofs.Standing.{breaks_when, breaks_by, breaks_behind, tells_more}
 use Rattle.plural_trace.proofs.records.record_fault.Goals as goal

@@ -1,4 +1,4 @@
-use Rattle.std.proofs.Common.{◌≡◌, ◌∙◌, ap, sym, length, arith, eqb-true, inl, inr}
+use Rattle.std.proofs.Common.{◌∙◌, ap, sym, arith, eqb-true, inl, inr}
 use Rattle.std.proofs.lemmas.Bool.{eqb-false}
 use Rattle.plural_bytes.specs.Lines.{tokens}
 use Rattle.plural_bytes.proofs.Cuts.{tokens_trimmed}
