@@ -146,6 +146,7 @@ fn reg_instr(op: RegOp, word: u32) -> Instr
     }
 }
 
+#[inline(always)]
 #[tactic(auto, unfolding(crate::specs::Table::row_of))]
 fn branch(word: u32) -> Option<Instr>
     requires { opcode word ≡ 0x63 }
@@ -162,6 +163,7 @@ fn branch(word: u32) -> Option<Instr>
     }
 }
 
+#[inline(always)]
 #[tactic(auto, unfolding(crate::specs::Table::row_of))]
 fn load(word: u32) -> Option<Instr>
     requires { opcode word ≡ 0x03 }
@@ -177,6 +179,7 @@ fn load(word: u32) -> Option<Instr>
     }
 }
 
+#[inline(always)]
 #[tactic(auto, unfolding(crate::specs::Table::row_of))]
 fn store(word: u32) -> Option<Instr>
     requires { opcode word ≡ 0x23 }
@@ -190,6 +193,7 @@ fn store(word: u32) -> Option<Instr>
     }
 }
 
+#[inline(always)]
 #[tactic(auto, unfolding(crate::specs::Table::row_of))]
 fn op_imm(word: u32) -> Option<Instr>
     requires { opcode word ≡ 0x13 }
@@ -209,6 +213,7 @@ fn op_imm(word: u32) -> Option<Instr>
     }
 }
 
+#[inline(always)]
 #[tactic(auto, unfolding(crate::specs::Table::row_of))]
 fn op(word: u32) -> Option<Instr>
     requires { opcode word ≡ 0x33 }
@@ -237,6 +242,7 @@ fn op(word: u32) -> Option<Instr>
     }
 }
 
+#[inline(always)]
 #[tactic(auto, unfolding(crate::specs::Table::row_of))]
 fn system(word: u32) -> Option<Instr>
     requires { opcode word ≡ 0x73 }
@@ -251,6 +257,7 @@ fn system(word: u32) -> Option<Instr>
 
 /// The instruction that the word spells: the instruction of the word's row of the table (RV32I 2.1 and
 /// M 2.0, "RV32/64G Instruction Set Listings"), with the word's fields. None where no row is the word's.
+#[inline(always)]
 #[tactic(auto, unfolding(crate::specs::Table::row_of))]
 pub fn decode(word: u32) -> Option<Instr>
     ensures { result ≡ decoded word }
