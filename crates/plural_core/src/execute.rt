@@ -16,15 +16,15 @@ pub enum Action {
     },
     /// Loads from a byte address.
     Read {
-        address: u32,
         width: Width,
         sign: bool,
+        address: u32,
         rd: Reg,
     },
     /// Stores to a byte address.
     Write {
-        address: u32,
         width: Width,
+        address: u32,
         value: u32,
     },
     /// `ecall`.
@@ -224,14 +224,14 @@ pub(crate) fn execute(instr: Instr, registers: &[u32; 32], pc: u32) -> Action
             branch(pc, taken, offset)
         }
         Instr::Load { op, rd, rs1, imm } => Action::Read {
-            address: address(registers, rs1, imm),
             width: load_width(op),
             sign: load_sign(op),
+            address: address(registers, rs1, imm),
             rd,
         },
         Instr::Store { op, rs1, rs2, imm } => Action::Write {
-            address: address(registers, rs1, imm),
             width: store_width(op),
+            address: address(registers, rs1, imm),
             value: register(registers, rs2),
         },
         Instr::OpImm { op, rd, rs1, imm } => {

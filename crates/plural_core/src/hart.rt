@@ -135,14 +135,14 @@ impl Hart {
         match action(code, &self.registers, self.pc) {
             Action::Go { rd, value, pc } => self.go(rd, value, pc),
             Action::Read {
-                address,
                 width,
                 sign,
+                address,
                 rd,
             } => self.read(regions, port, address, width, sign, rd),
             Action::Write {
-                address,
                 width,
+                address,
                 value,
             } => self.write(regions, port, address, width, value),
             Action::Finish => self.finish(),
