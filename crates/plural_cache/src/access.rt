@@ -18,7 +18,26 @@ pub struct Loaded {
     pub misses: u32,
 }
 
+/// A load access to word `a`, whose line belongs to `set` and is absent: the line is filled.
+#[inline(never)]
+fn load_absent<B: Bus>(set: &mut Set, ways: usize, bus: &mut B, a: u32) -> u32
+    requires ways { (0 < ways) × (ways ≤ 4) }
+    requires sound { B.is_sound bus.old }
+    requires within { 8 * (a / 8) + 8 ≤ length (B.holds bus.old) }
+    requires room { B.reads bus.old < 2 ^ 61 }
+    ensures order { set.new ≡ loaded false ways (a / 8) (front set.new) set.old }
+    ensures value { result ≡ slice_index (front set.new) (a % 8) }
+    ensures words { (w : ℕ) → w < 8 → B.lawful bus.old (8 * (a / 8) + w) ≡ true → slice_index (front set.new) w ≡ slice_index (B.holds bus.old) (8 * (a / 8) + w) }
+    ensures step { Reads B.holds B.lawful B.expects B.reads B.writes B.keeps B.is_sound 8 bus.old bus.new }
+{
+    let line = a / 8;
+    let words = fill(bus, line);
+    set.push(ways, Line { line, words });
+    words[(a % 8) as usize]
+}
+
 /// A load access to word `a`, whose line belongs to `set`: a line that is absent is filled.
+#[inline]
 pub fn load_in<B: Bus>(set: &mut Set, ways: usize, bus: &mut B, a: u32) -> Loaded
     requires ways { (0 < ways) × (ways ≤ 4) }
     requires sound { B.is_sound bus.old }
@@ -30,18 +49,15 @@ pub fn load_in<B: Bus>(set: &mut Set, ways: usize, bus: &mut B, a: u32) -> Loade
     ensures misses { result.misses ≡ (if is_in (a / 8) (keys set.old) then 0 else 1) }
     ensures step { Reads B.holds B.lawful B.expects B.reads B.writes B.keeps B.is_sound (if is_in (a / 8) (keys set.old) then 0 else 8) bus.old bus.new }
 {
-    let line = a / 8;
-    let word = (a % 8) as usize;
-    if set.seek(line) {
-        return Loaded {
-            value: set.front_word(word),
+    if set.seek(a / 8) {
+        Loaded {
+            value: set.front_word((a % 8) as usize),
             misses: 0,
-        };
-    }
-    let words = fill(bus, line);
-    set.push(ways, Line { line, words });
-    Loaded {
-        value: words[word],
-        misses: 1,
+        }
+    } else {
+        Loaded {
+            value: load_absent(set, ways, bus, a),
+            misses: 1,
+        }
     }
 }

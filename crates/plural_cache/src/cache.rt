@@ -135,6 +135,7 @@ impl Cache {
 
     /// A load access to word `a`. A line that is absent is filled by eight reads of the bus; where its
     /// set is full, the line whose last load access is oldest is dropped.
+    #[inline]
     pub fn load<B: Bus>(&mut self, bus: &mut B, a: u32) -> u32
         requires sound { B.is_sound bus.old }
         requires lawful { B.lawful bus.old a ≡ true }

@@ -44,6 +44,7 @@ impl Line {
 }
 
 /// Puts a line before the others, in place of the p-th.
+#[inline(never)]
 fn shift_in(lines: &mut [Line], p: usize, line: Line)
     requires { p < length lines.old }
     ensures { lines.new ≡ line ∷ remove lines.old p }

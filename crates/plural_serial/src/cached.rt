@@ -42,6 +42,7 @@ impl<B: Bus> DataPort for Cached<'_, B> {
 
     ghost is_sound = { λ c. B.is_sound c.bus.now × IsCacheOver c.cache.now (B.lawful c.bus.now) (B.holds c.bus.now) (B.reads c.bus.now) (B.writes c.bus.now) };
 
+    #[inline(always)]
     fn load(&mut self, a: u32) -> u32 {
         self.cache.load(self.bus, a)
     }
