@@ -17,8 +17,6 @@ pub mod laws;
 mod object;
 mod offset;
 mod places;
-#[cfg(test)]
-mod tests;
 mod verdict;
 mod words;
 

@@ -18,8 +18,6 @@ pub mod laws;
 mod program;
 mod read;
 pub mod section;
-#[cfg(test)]
-mod tests;
 
 pub use bundle::Bundle;
 pub use fault::{BundleError, Fault};

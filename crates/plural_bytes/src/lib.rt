@@ -34,6 +34,3 @@ pub use outside::{Failed, Memory, Sink, Source};
 pub use reading::{ReadError, read_all};
 pub use text::{is_word, put, put_number};
 pub use writing::{WriteFault, write_all};
-
-#[cfg(test)]
-mod tests;

@@ -13,8 +13,6 @@ mod bus;
 mod cache;
 mod filling;
 mod set;
-#[cfg(test)]
-mod tests;
 
 pub use bus::Bus;
 pub use cache::{Cache, Counts};

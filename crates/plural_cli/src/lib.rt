@@ -4,8 +4,9 @@
 //! Promise: the status and the text of `plural` are those of `specs/Output.antt` for every input, and each
 //! other status has its cause: the words for 2, the source's count of faults for 5, the sink's for 6, want of
 //! memory for 7.
-//! Stands on `plural_bundle` (reading), `plural_crew` (clashes), `plural_serial` (the run), `plural_asm` and
-//! `plural_image` (texts). The program `plural` is its `main` alone.
+//! Stands on `plural_bundle` and `plural_output` (reading), `plural_crew` (clashes), `plural_serial` (the run),
+//! `plural_trace` (logs and the verdict), `plural_generator` (the made bundle), `plural_asm` and `plural_image`
+//! (texts). The program `plural` is its `main` alone.
 #![tactic(auto)]
 
 mod answer;
@@ -24,16 +25,3 @@ mod verifying;
 pub use command::{Command, Request};
 pub use gate::{Gate, OpenGate};
 pub use top::plural;
-
-#[cfg(test)]
-mod bundle_tests;
-#[cfg(test)]
-mod check_tests;
-#[cfg(test)]
-mod command_tests;
-#[cfg(test)]
-mod filter_tests;
-#[cfg(test)]
-mod tests;
-#[cfg(test)]
-mod verify_tests;

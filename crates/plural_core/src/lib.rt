@@ -15,8 +15,6 @@ pub mod laws;
 mod life;
 mod port;
 mod subword;
-#[cfg(test)]
-mod tests;
 
 pub use end::End;
 pub use hart::{Hart, Job, Turn};

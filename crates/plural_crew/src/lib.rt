@@ -14,6 +14,3 @@ mod least;
 
 pub use accepted::{Accepted, Clash};
 pub use checking::check;
-
-#[cfg(test)]
-mod tests;

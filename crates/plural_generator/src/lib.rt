@@ -14,6 +14,3 @@ pub mod laws;
 mod tasks;
 
 pub use bundle::make;
-
-#[cfg(test)]
-mod tests;

@@ -20,6 +20,3 @@ pub use hexadecimal::word_of;
 pub use plural_bytes::hex;
 pub use print::print_image;
 pub use read::read_image;
-
-#[cfg(test)]
-mod tests;

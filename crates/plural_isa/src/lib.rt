@@ -15,8 +15,6 @@ mod instr;
 pub mod laws;
 mod reg;
 mod register_names;
-#[cfg(test)]
-mod tests;
 
 pub use code::Code;
 pub use decoder::decode;

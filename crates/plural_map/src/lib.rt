@@ -33,6 +33,3 @@ pub use outcome::{Decision, Dep, Outcome, When};
 pub use printing::{print, put_name_at};
 pub use read::parse;
 pub use task::Task;
-
-#[cfg(test)]
-mod tests;

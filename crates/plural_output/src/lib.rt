@@ -15,8 +15,6 @@ mod parts;
 mod printing;
 mod read;
 mod section;
-#[cfg(test)]
-mod tests;
 
 pub use output::Output;
 pub use parts::{Parts, split_parts};

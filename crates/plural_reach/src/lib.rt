@@ -17,6 +17,3 @@ pub use branches::needs;
 pub use chains::reach;
 pub use set::TaskSet;
 pub use tables::{Needs, Reach};
-
-#[cfg(test)]
-mod tests;

@@ -13,8 +13,6 @@ pub mod laws;
 mod meeting;
 mod region;
 mod residue;
-#[cfg(test)]
-mod tests;
 mod triple;
 
 pub use meeting::{meet, meet_by_scan};

@@ -15,8 +15,6 @@ mod machine;
 mod outcome;
 mod program;
 mod record_;
-#[cfg(test)]
-mod tests;
 
 pub use answer::Answer;
 pub use cached::Cached;

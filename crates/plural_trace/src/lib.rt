@@ -25,8 +25,6 @@ mod records;
 mod rise;
 mod serial_run;
 mod shape;
-#[cfg(test)]
-mod tests;
 mod tickets;
 mod verdict;
 

@@ -1,0 +1,115 @@
+//! Accesses over a small bus, against rows worked by hand.
+ghost use Rattle.std.specs.Prelude.{◌≡◌, vec_len};
+ghost use Rattle.plural_cache.specs.Cache.{IsFresh};
+
+use plural_cache::{Bus, Cache, Counts};
+use std::test::Fail;
+
+/// A memory whose words are all lawful, and which tells no stores.
+#[derive(Drop)]
+struct Words {
+    words: Vec<u32>,
+    reads: u64,
+    writes: u64,
+}
+
+impl Bus for Words {
+    ghost use Rattle.std.specs.Prelude.{length, nat_lt, None};
+    ghost use Rattle.std.proofs.Common.{arith};
+    ghost use Rattle.std.proofs.lemmas.Bool.Decides.{nat_tests};
+
+    ghost holds = { λ w. w.words.items };
+
+    ghost lawful = { λ w a. nat_lt a (length w.words.items) };
+
+    ghost expects = { λ _. None };
+
+    ghost reads = { λ w. w.reads };
+
+    ghost writes = { λ w. w.writes };
+
+    ghost keeps = { λ _ _. Unit {0} };
+
+    ghost is_sound = { λ _. Unit {0} };
+
+    fn read(&mut self, a: u32) -> u32 {
+        self.reads += 1;
+        self.words[a as usize]
+    }
+
+    fn write(&mut self, a: u32, v: u32) {
+        self.writes += 1;
+        self.words[a as usize] = v;
+    }
+
+    ghost within = { λ s a h. Prim.grind (arith, nat_tests) };
+
+    ghost keeps_none = { λ _. tt };
+
+    ghost keeps_both = { λ _ _ _ _ _. tt };
+}
+
+/// Loads the words 0, 8 and 0 of 16.
+fn replaced(cache: &mut Cache, bus: &mut Words) -> Counts
+    requires fresh { IsFresh cache.old cache.old.sets cache.old.ways }
+    requires words { vec_len bus.old.words ≡ 16 }
+    requires reads { bus.old.reads ≡ 0 }
+{
+    cache.load(bus, 0);
+    cache.load(bus, 8);
+    cache.load(bus, 0);
+    cache.counts()
+}
+
+#[test]
+fn a_line_comes_back_only_where_it_was_dropped(rt: HostRuntime) -> Result<(), Fail> {
+    let alloc = rt.alloc();
+    let words = [0; 16];
+    let mut one = Cache::open(alloc, 1, 1)?;
+    let mut bus = Words {
+        words: words.to_vec(alloc)?,
+        reads: 0,
+        writes: 0,
+    };
+    let counts = replaced(&mut one, &mut bus);
+    assert_eq!(rt; (counts.loads, counts.misses, bus.reads), (3, 3, 24));
+    let mut two_ways = Cache::open(alloc, 1, 2)?;
+    let mut bus = Words {
+        words: words.to_vec(alloc)?,
+        reads: 0,
+        writes: 0,
+    };
+    let counts = replaced(&mut two_ways, &mut bus);
+    assert_eq!(rt; (counts.loads, counts.misses, bus.reads), (3, 2, 16));
+    let mut two_sets = Cache::open(alloc, 2, 1)?;
+    let mut bus = Words {
+        words: words.to_vec(alloc)?,
+        reads: 0,
+        writes: 0,
+    };
+    let counts = replaced(&mut two_sets, &mut bus);
+    assert_eq!(rt; (counts.loads, counts.misses, bus.reads), (3, 2, 16));
+    Ok(())
+}
+
+#[test]
+fn a_store_goes_through_and_fills_no_line(rt: HostRuntime) -> Result<(), Fail> {
+    let mut cache = Cache::open(rt.alloc(), 1, 1)?;
+    let mut bus = Words {
+        words: [0; 16].to_vec(rt.alloc())?,
+        reads: 0,
+        writes: 0,
+    };
+    cache.store(&mut bus, 1, 5);
+    let filled = cache.load(&mut bus, 1);
+    cache.store(&mut bus, 2, 6);
+    cache.store(&mut bus, 9, 7);
+    let kept = cache.load(&mut bus, 2);
+    assert_eq!(rt; (filled, kept, bus.reads, bus.writes), (5, 6, 8, 3));
+    let counts = cache.counts();
+    assert_eq!(rt; (counts.loads, counts.misses, counts.stores), (2, 1, 3));
+    cache.empty();
+    let again = cache.load(&mut bus, 9);
+    assert_eq!(rt; (again, bus.reads, cache.counts().misses), (7, 16, 1));
+    Ok(())
+}
