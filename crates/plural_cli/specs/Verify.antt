@@ -38,9 +38,11 @@ abbrev pub verdict_text : ℕ → Verdict → List ℕ
 verdict_text entries verdict.Yes = legal_text entries
 verdict_text entries (verdict.No rule at) = rule_text rule at
 
--- The answer that tells the verdict of the rules on a log and a last memory, by which tasks come before which.
+-- The answer that tells the verdict of the rules on a log and a last memory, by which tasks come before which: there is a
+-- table that says it, and the verdict is that of each such table.
 pub record IsJudged (b : BundleValue) (o : OutputValue) (status : ℕ) (text : List ℕ) : Type 0 where
   pub verdict : Verdict
+  pub table : (r : Reach) × IsReachOf r b.program.map.tasks
   pub exact : (r : Reach) → IsReachOf r b.program.map.tasks → verdict ≡ verdict_of b.program b.image (says_before r) o.log o.image
   pub status_is : status ≡ verdict_status verdict
   pub text_is : text ≡ verdict_text (length o.log.entries) verdict

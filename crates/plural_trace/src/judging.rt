@@ -90,7 +90,9 @@ pub fn legal(
     requires last { length last.now ≡ program.now.map.words }
     requires one_each { length log.now.outcomes ≡ length program.now.map.tasks }
     requires few { length log.now.entries ≤ 65536 }
-    ensures { IfOk result (λ v. (r : Reach) → IsReachOf r program.now.map.tasks → v ≡ verdict_of program.now start.now (says_before r) log.now last.now) }
+    // A table that says which tasks come before which is there, and the verdict is that of each.
+    ensures table { IfOk result (λ v. (r : Reach) × IsReachOf r program.now.map.tasks) }
+    ensures verdict { IfOk result (λ v. (r : Reach) → IsReachOf r program.now.map.tasks → v ≡ verdict_of program.now start.now (says_before r) log.now last.now) }
 {
     let answer = serial(alloc, program, start)?;
     let map = program.map();

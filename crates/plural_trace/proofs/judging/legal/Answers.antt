@@ -1,7 +1,9 @@
 use Rattle.std.proofs.Common.{◌≡◌, ◌∙◌, ap, sym, subst, length, Some, arith}
 use Rattle.std.proofs.lemmas.List.{length-map}
+use Rattle.std.proofs.lemmas.Result.{IfOk-weaker}
 use Rattle.plural_map.specs.Value.{MapValue}
 use Rattle.plural_map.specs.Limits.{IsMap}
+use Rattle.plural_reach.specs.declared.tables.Reach.{Reach}
 use Rattle.plural_reach.specs.Tables.{IsReachOf}
 use Rattle.plural_trace.proofs.Judged.{records_within, outcomes_each, legal_by}
 use Rattle.plural_trace.proofs.Fits.{serial_fits}
@@ -42,8 +44,14 @@ judge-requires-clause-few_outcomes c =
     let each : length outcomes ≡ length p.map.tasks = sym (length-map outcomes (λ o. Some o)) ∙ ap length c.in_ok-answer.ensures.answer.outcomes ∙ outcomes_each p c.args.start.now in
     omega (arith, each, limits.few_tasks)
 
-pub returns : goal.returns
-returns c =
+pub returns-clause-table : goal.returns-clause-table
+returns-clause-table c =
+    let table = subst (λ (m : MapValue). IsReachOf c.reach-reach.result m.tasks) c.map-map.ensures c.reach-reach.ensures in
+    let there : (r : Reach) × IsReachOf r c.args.program.now.map.tasks = (c.reach-reach.result, table) in
+    IfOk-weaker _ _ _ (λ v p. there) c.judge.ensures
+
+pub returns-clause-verdict : goal.returns-clause-verdict
+returns-clause-verdict c =
     let p = c.args.program.now in
     let limits = subst (λ (m : MapValue). IsMap m) c.map-map.ensures c.tasks.ensures.limits in
     let table = subst (λ (m : MapValue). IsReachOf c.reach-reach.result m.tasks) c.map-map.ensures c.reach-reach.ensures in
