@@ -2,7 +2,7 @@
 use Rattle.std.proofs.Common.{◌≡◌, ℕ, zero, suc, ◌+◌, ◌<◌, Bool, true, false, not, ◌||◌, ◌&&◌, ltb, List, [], ◌∷◌, length, map, take, get_or, Option, Some, None, refl, sym, ap, ◌∙◌, arith}
 use Rattle.std.specs.Prelude.{fold, Result, Ok, Err, IfOk}
 use Rattle.std.specs.List.{All}
-use Rattle.std.proofs.lemmas.List.{length-set, length-replicate}
+use Rattle.std.proofs.lemmas.List.{length-set, length-replicate, get_or_default}
 use Rattle.std.proofs.lemmas.List.Elements.{All-append, All-push, All-head, All-tail, All-cons}
 use Rattle.plural_map.specs.declared.outcome.Outcome.{Outcome}
 use Rattle.plural_map.specs.declared.outcome.Decision.{Decision}
@@ -64,12 +64,7 @@ order_ran p tasks (t ∷ ts) r o h =
     order_ran p tasks ts (with_task p r t) (All-tail (λ t. t < tasks) t ts o) (task_ran p t tasks r (All-head (λ t. t < tasks) t ts o) h)
 
 order_all : (m : MapValue) → IsMap m → All (λ t. t < length m.tasks) m.order
-order_all m limits = λ i d l. rw (any_default m.order i d l) (next_within m m.order i limits refl l)
-  where
-    any_default : (xs : List ℕ) (i d : ℕ) → i < length xs → get_or xs i d ≡ get_or xs i 0
-    any_default [] i d l = absurd (omega arith)
-    any_default (x ∷ xs) zero d l = refl
-    any_default (x ∷ xs) (suc i) d l = any_default xs i d (omega arith)
+order_all m limits = λ i d l. rw (get_or_default m.order i d 0 l) (next_within m m.order i limits refl l)
 
 records_all : (p : ProgramValue) (tasks : ℕ) (xs : List Started) → All (IsOfTask tasks) xs → All (λ (r : Record). r.t < tasks) (map (record_of p) xs)
 records_all p tasks [] h = λ k d lt. absurd (omega arith)
@@ -108,16 +103,11 @@ pub entries_within : (tasks : ℕ) (rs : List Record) (es : List Entry) → All 
 entries_within tasks rs es h e = λ i d l.
     let fine = least_none (breaks_records rs es) i (length es + 1) (omega arith) e in
     let own = recorded_task tasks rs (entry_at es i).rec h (first (is_recorded rs (entry_at es i).rec) (has_instance (entry_at es i).rec.t (entry_at es i).rec.k (take i es)) (sym (record_test rs es i l) ∙ fine)) in
-    rw (any_default es i d l) own
+    rw (get_or_default es i d no_entry l) own
   where
     first : (a b : Bool) → (not a || b) ≡ false → a ≡ true
     first true b e = refl
     first false b e = absurd cc
-
-    any_default : (es : List Entry) (i : ℕ) (d : Entry) → i < length es → get_or es i d ≡ get_or es i no_entry
-    any_default [] i d l = absurd (omega arith)
-    any_default (e ∷ es) zero d l = refl
-    any_default (e ∷ es) (suc i) d l = any_default es i d (omega arith)
 
 -- ---- any table of the map serves
 

@@ -1,6 +1,7 @@
 -- The latest ends decide what starts too early.
-use Rattle.std.proofs.Common.{◌≡◌, ℕ, zero, suc, ◌+◌, ◌<◌, ◌≤◌, max, Bool, true, false, not, ◌||◌, ◌&&◌, eqb, ltb, cond, List, [], ◌∷◌, length, take, set, get_or, refl, sym, ap, ◌∙◌, subst, arith, eq-eqb, eqb-true, ◌⊎◌, inl, inr, ⊎_elim}
+use Rattle.std.proofs.Common.{◌≡◌, ℕ, zero, suc, ◌+◌, ◌<◌, ◌≤◌, max, Bool, true, false, not, ◌||◌, ◌&&◌, eqb, ltb, cond, List, [], ◌∷◌, length, take, set, get_or, refl, sym, ap, ◌∙◌, subst, arith, eq-eqb, eqb-true, ⊎_elim}
 use Rattle.std.specs.Prelude.{All}
+use Rattle.std.proofs.lemmas.Bool.{cases_Bool}
 use Rattle.std.proofs.lemmas.Bool.Decides.{nat_tests}
 use Rattle.std.proofs.lemmas.List.{get_or-set_same, get_or-set_other}
 use Rattle.std.proofs.lemmas.List.Elements.{All-head, All-tail}
@@ -10,10 +11,6 @@ use Rattle.plural_trace.proofs.Places.{least_same}
 use Rattle.plural_trace.specs.Busy.{is_busy_at}
 use Rattle.plural_trace.specs.Ends.{latest_end, latest_before}
 use Rattle.plural_trace.specs.declared.entry.Entry.{Entry}
-
-bool_cases : (b : Bool) → (b ≡ true) ⊎ (b ≡ false)
-bool_cases true = inl refl
-bool_cases false = inr refl
 
 latest_end-next : (t i : ℕ) (es : List Entry) → i < length es → latest_end t (take (i + 1) es) ≡ max (latest_end t (take i es)) (cond (eqb (entry_at es i).rec.t t) ((entry_at es i).end_at + 1) 0)
 latest_end-next t i es lt = ap (λ n. latest_end t (take n es)) (let s : i + 1 ≡ suc i = omega arith in s) ∙ more t i es lt
@@ -43,7 +40,7 @@ ends_next es ends i t n long lt own below h =
     ∙ (let z : latest_end t (take i es) ≡ max (latest_end t (take i es)) 0 = omega arith in z)
     ∙ ap (λ b. max (latest_end t (take i es)) (cond b (e.end_at + 1) 0)) (sym k)
     ∙ sym (latest_end-next t i es lt))
-    (bool_cases (eqb e.rec.t t))
+    (cases_Bool (eqb e.rec.t t))
 
 -- the same over the entries
 abbrev pub latest_of : (ℕ → ℕ → Bool) → (u : ℕ) → List Entry → (n : ℕ) → ℕ

@@ -1,9 +1,10 @@
 -- Looking for the least place by going up.
 use Rattle.std.proofs.Common.{◌≡◌, ℕ, zero, suc, ◌+◌, ◌-◌, ◌*◌, ◌<◌, ◌≤◌, Bool, true, false, not, ◌||◌, eqb, ltb, cond, List, [], ◌∷◌, length, take, set, get_or, Option, Some, None, refl, sym, ap, ◌∙◌, arith, eqb-true}
 use Rattle.std.specs.List.{All}
-use Rattle.std.proofs.lemmas.List.{length-set}
+use Rattle.std.proofs.lemmas.Bool.{cases_Bool}
+use Rattle.std.proofs.lemmas.List.{length-set, get_or_default}
 use Rattle.std.proofs.lemmas.Bool.Decides.{nat_tests}
-use Rattle.std.proofs.Common.{◌⊎◌, inl, inr, ⊎_elim}
+use Rattle.std.proofs.Common.{⊎_elim}
 use Rattle.plural_trace.specs.Least.{least, or_else}
 use Rattle.plural_trace.specs.Rules.{no_entry, entry_at, is_drawn, breaks_tickets}
 use Rattle.plural_trace.specs.declared.entry.Entry.{Entry}
@@ -118,12 +119,8 @@ pub least_stays : (p : ℕ → Bool) (i m n : ℕ) → m ≤ n → Some i ≡ le
 least_stays p i m n le e = sym (least_more p i m (n - m) (sym e)) ∙ ap (least p) (let s : m + (n - m) ≡ n = omega arith in s)
 
 pub least_none : (p : ℕ → Bool) (i n : ℕ) → i < n → least p n ≡ None → p i ≡ false
-least_none p i n lt e = ⊎_elim (λ t. absurd (clash p i n lt t e)) (λ f. f) (bool_cases (p i))
+least_none p i n lt e = ⊎_elim (λ t. absurd (clash p i n lt t e)) (λ f. f) (cases_Bool (p i))
   where
-    bool_cases : (b : Bool) → (b ≡ true) ⊎ (b ≡ false)
-    bool_cases true = inl refl
-    bool_cases false = inr refl
-
     first : (p : ℕ → Bool) (n : ℕ) → least p (suc n) ≡ None → (least p n ≡ None) × (p n ≡ false)
     first p n e = parts (least p n) (p n) n e
       where
@@ -136,7 +133,7 @@ least_none p i n lt e = ⊎_elim (λ t. absurd (clash p i n lt t e)) (λ f. f) (
     clash p i zero lt t e = omega arith
     clash p i (suc n) lt t e =
         let f = first p n e in
-        ⊎_elim (λ k. let s : p i ≡ false = ap p (eqb-true i n k) ∙ f.1 in cc (sym t ∙ s)) (λ k. clash p i n (grind (arith, nat_tests)) t f.0) (bool_cases (eqb i n))
+        ⊎_elim (λ k. let s : p i ≡ false = ap p (eqb-true i n k) ∙ f.1 in cc (sym t ∙ s)) (λ k. clash p i n (grind (arith, nat_tests)) t f.0) (cases_Bool (eqb i n))
 
 -- Each interval starts no later than it ends.
 abbrev pub AllRise : List Entry → Type 0
@@ -145,13 +142,8 @@ AllRise es = All (λ (e : Entry). e.start ≤ e.end_at) es
 pub rise_when : (es : List Entry) → least (breaks_tickets es) (length es) ≡ None → AllRise es
 rise_when es e = λ k d lt.
     let f = fits_when es k (least_none (breaks_tickets es) k (length es) lt e) in
-    let at = get_or_any es k d no_entry lt in
+    let at = get_or_default es k d no_entry lt in
     let a = ap (λ (e : Entry). e.start) at in
     let b = ap (λ (e : Entry). e.end_at) at in
     let low = f.0 in
     omega arith
-  where
-    get_or_any : (es : List Entry) (i : ℕ) (d d' : Entry) → i < length es → get_or es i d ≡ get_or es i d'
-    get_or_any [] i d d' lt = absurd (let h : ⊥ = omega arith in h)
-    get_or_any (e ∷ es) zero d d' lt = refl
-    get_or_any (e ∷ es) (suc i) d d' lt = get_or_any es i d d' (omega arith)
