@@ -28,7 +28,7 @@ fn first_text<'b>(lines: &[Line<'b>]) -> &'b [u8]
     }
 }
 
-fn is_header(text: &[u8], header: &[u8]) -> bool
+pub(crate) fn is_header(text: &[u8], header: &[u8]) -> bool
     ensures { result ≡ bytes_eq text.now header.now }
 {
     text == header

@@ -5,6 +5,7 @@ ghost use Rattle.std.specs.List.{position_or_len, after_first};
 ghost use Rattle.plural_bytes.specs.Spelled.{text_lines};
 ghost use Rattle.plural_output.specs.Parts.{bundle_part, output_part};
 
+use crate::border::is_header;
 use plural_bytes::Line;
 
 /// The content lines of a bundle, up to its `[end]`, and those of the output of a run behind it.
@@ -14,16 +15,10 @@ pub struct Parts<'a, 'b> {
     pub output: &'a [Line<'b>],
 }
 
-fn is_end(text: &[u8]) -> bool
-    ensures { result ≡ bytes_eq text.now (codes "[end]") }
-{
-    text == b"[end]".as_slice()
-}
-
 fn find_end(lines: &[Line<'_>]) -> Option<usize>
     ensures { result ≡ position (λ l. bytes_eq l.text.now (codes "[end]")) lines.now }
 {
-    lines.iter().position(|l| is_end(l.text))
+    lines.iter().position(|l| is_header(l.text, b"[end]"))
 }
 
 /// How many lines stand up to the first that is the end of a bundle, with it; all where none is.
