@@ -1,5 +1,5 @@
 //! What one decoded instruction does, before the guard.
-ghost use Rattle.std.specs.Prelude.{◌≡◌, ℕ, ◌+◌, ◌-◌, ◌*◌, ◌/◌, ◌%◌, ◌^◌, ◌<◌, ◌≤◌};
+ghost use Rattle.std.specs.Prelude.{◌≡◌, ℕ, ◌+◌, ◌-◌, ◌*◌, ◌/◌, ◌%◌, ◌^◌, ◌<◌, ◌≤◌, slice_index};
 
 use crate::arithmetic;
 use crate::subword::Width;
@@ -39,16 +39,12 @@ ghost use Rattle.plural_core.specs.Arithmetic.{word, sum_of};
 ghost use Rattle.plural_core.specs.Act.{get, put, address_of, next, jump, branch};
 ghost use Rattle.plural_core.specs.Execution.{is_taken, load_width, load_sign, store_width, imm_value, reg_value, effect_of, seen};
 
-/// What a register reads: x0 reads 0.
+/// What a register reads; the word of x0 is kept 0.
 pub(crate) fn register(registers: &[u32; 32], reg: Reg) -> u32
+    requires zero { slice_index registers.now 0 ≡ 0 }
     ensures { result ≡ get registers.now reg }
 {
-    let number = reg.number();
-    if number == 0 {
-        0
-    } else {
-        registers[number as usize]
-    }
+    registers[reg.number() as usize]
 }
 
 /// Whether a branch is taken. (RV32I 2.1, section 2.5.)
@@ -146,6 +142,7 @@ fn word(number: i32) -> u32
 
 /// The byte address that a base register and an offset give.
 fn address(registers: &[u32; 32], rs1: Reg, imm: i32) -> u32
+    requires zero { slice_index registers.now 0 ≡ 0 }
     ensures { result ≡ address_of registers.now rs1 imm }
 {
     arithmetic::sum(register(registers, rs1), word(imm))
@@ -204,6 +201,7 @@ fn branch(pc: u32, taken: bool, offset: i32) -> Action
 /// What the instruction does over these registers at this pc.
 #[tactic(auto, unfolding(crate::specs::Execution::effect_of))]
 pub(crate) fn execute(instr: Instr, registers: &[u32; 32], pc: u32) -> Action
+    requires zero { slice_index registers.now 0 ≡ 0 }
     ensures { seen registers.now result ≡ effect_of instr registers.now pc }
 {
     match instr {

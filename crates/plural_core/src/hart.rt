@@ -40,28 +40,29 @@ pub enum Turn {
 /// A core that runs one instance, seen as its state, the instance's number and the budget.
 #[derive(Drop)]
 pub struct Hart {
-    registers: [u32; 32],
     pc: u32,
     count: u32,
     over: Option<End>,
     k: u32,
     budget: u32,
+    registers: [u32; 32],
 }
 
 impl Model for Hart {
-    ghost use Rattle.std.specs.Prelude.{◌≡◌, ◌≤◌, ◌<◌, Option, None};
+    ghost use Rattle.std.specs.Prelude.{◌≡◌, ◌≤◌, ◌<◌, Option, None, slice_index};
     ghost use Rattle.plural_core.specs.Turn.{Core};
 
     ghost Value = { Core };
 
     ghost view = { λ h. record { state = record { registers = h.registers; pc = h.pc; count = h.count; over = h.over }; k = h.k; budget = h.budget } };
 
-    ghost invariant = { λ h. (h.budget ≤ 100000000) × (h.count ≤ h.budget) × (h.over ≡ None → h.count < h.budget) };
+    ghost invariant = { λ h. (h.budget ≤ 100000000) × (h.count ≤ h.budget) × (h.over ≡ None → h.count < h.budget) × (slice_index h.registers 0 ≡ 0) };
 }
 
 /// The effect of the instruction at pc.
 #[tactic(auto, unfolding(crate::specs::Act::act))]
 fn action(code: &Code, registers: &[u32; 32], pc: u32) -> Action
+    requires zero { slice_index registers.now 0 ≡ 0 }
     ensures { seen registers.now result ≡ act code.now registers.now pc }
 {
     if pc >= 4 * code.len() {
@@ -107,12 +108,12 @@ impl Hart {
         registers[10] = job.k;
         registers[11] = job.q;
         Hart {
-            registers,
             pc: job.entry,
             count: 0,
             over: None,
             k: job.k,
             budget: job.budget,
+            registers,
         }
     }
 
