@@ -5,7 +5,7 @@ use Rattle.std.specs.List.{AllByRecursion, after_first}
 use Rattle.std.proofs.lemmas.Bool.{false_from_ne_true}
 use Rattle.std.proofs.lemmas.Slice.Eq.{bytes_eq-Decides}
 use Rattle.plural_bytes.specs.Lines.{TextLine}
-use Rattle.plural_bytes.proofs.Passing.{after_at, all_weaker, all_append}
+use Rattle.plural_bytes.proofs.Passing.{before_at, after_at, all_weaker, all_append}
 use Rattle.plural_bundle.specs.declared.fault.Fault.TheVariants.{Form}
 use Rattle.plural_bundle.specs.Sections.{closes, up_to_header, section, map_lines, kernel_lines, image_lines}
 use Rattle.plural_bundle.specs.FirstLine.{first_line_fault}
@@ -44,6 +44,17 @@ pub kernels_is : (all r1 r2 lines back r4 : List TextLine) → IsBegun all r1 �
 kernels_is all r1 r2 lines back r4 b m e h k =
     named (codes "[kernels]") all (b.first ∷ (m.number, codes "[map]") ∷ lines) r4 k.number (kernels_whole all r1 r2 lines back r4 b m e k)
     (first_apart b.first.1 (codes "[kernels]") b.good refl, (refl, lines_lack (codes "[kernels]") lines refl h)) refl
+
+-- an input that begins with these lines has the same kernel lines
+pub kernels_in : (all more r1 r2 maps back r4 lines after r6 : List TextLine) → IsBegun all r1 → IsBehind (codes "[map]") r1 r2 → r2 ≡ maps ++ back → NoneCloses maps → IsBehind (codes "[kernels]") back r4
+    → r4 ≡ lines ++ after → NoneCloses lines → IsBehind (codes "[image]") after r6 → kernel_lines (all ++ more) ≡ lines
+kernels_in all more r1 r2 maps back r4 lines after r6 b m e h k f g i =
+    let front : List TextLine = b.first ∷ (m.number, codes "[map]") ∷ maps in
+    let whole : all ++ more ≡ front ++ (k.number, codes "[kernels]") ∷ (r4 ++ more) = ap (λ x. x ++ more) (kernels_whole all r1 r2 maps back r4 b m e k) ∙ append_assoc front ((k.number, codes "[kernels]") ∷ r4) more in
+    let rest : r4 ++ more ≡ lines ++ (i.number, codes "[image]") ∷ (r6 ++ more) = ap (λ x. x ++ more) (f ∙ ap (λ x. lines ++ x) i.whole) ∙ append_assoc lines ((i.number, codes "[image]") ∷ r6) more in
+    named (codes "[kernels]") (all ++ more) front (r4 ++ more) k.number whole (first_apart b.first.1 (codes "[kernels]") b.good refl, (refl, lines_lack (codes "[kernels]") maps refl h)) refl
+    ∙ ap up_to_header rest
+    ∙ before_at (λ l. closes l.1) lines (i.number, codes "[image]") (r6 ++ more) g refl
 
 pub image_is : (all r1 r2 lines back r4 kernels after r6 : List TextLine) → IsBegun all r1 → IsBehind (codes "[map]") r1 r2 → r2 ≡ lines ++ back → NoneCloses lines → IsBehind (codes "[kernels]") back r4
     → r4 ≡ kernels ++ after → NoneCloses kernels → IsBehind (codes "[image]") after r6 → image_lines all ≡ up_to_header r6

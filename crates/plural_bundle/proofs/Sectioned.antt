@@ -24,20 +24,20 @@ in_closing b X Y e = ap (λ t. InSection t X Y) e
 pub in_staying : (b : Bool) (X Y : Type 0) → b ≡ false → InSection b X Y ≡ Y
 in_staying b X Y e = ap (λ t. InSection t X Y) e
 
-pub map_section : (all : List TextLine) → Section all 0 (codes "[kernels]") (map.Breaks (names_of (kernel_lines all))) map_fault
-map_section all = record {
+pub map_section : (input all : List TextLine) → Section input all 0 (codes "[kernels]") (map.Breaks (names_of (kernel_lines input))) map_fault
+map_section input all = record {
   stays = λ before text f e. in_staying (closes text) _ _ e;
   missing = λ before text e o. subst (λ X. X) (sym (in_closing (closes text) _ _ e)) (inl (refl, o));
 }
 
-pub kernel_section : (all : List TextLine) → Section all 1 (codes "[image]") (kernels.Breaks (kernel_lines all)) kernel_fault
-kernel_section all = record {
+pub kernel_section : (input all : List TextLine) → Section input all 1 (codes "[image]") (kernels.Breaks (kernel_lines all)) kernel_fault
+kernel_section input all = record {
   stays = λ before text f e. in_staying (closes text) _ _ e;
   missing = λ before text e o. subst (λ X. X) (sym (in_closing (closes text) _ _ e)) (refl, o);
 }
 
-pub image_section : (all : List TextLine) → Section all 2 (codes "[end]") (image.Breaks (map_of (map_lines all)).words) image_fault
-image_section all = record {
+pub image_section : (input all : List TextLine) → Section input all 2 (codes "[end]") (image.Breaks (map_of (map_lines all)).words) image_fault
+image_section input all = record {
   stays = λ before text f e. in_staying (closes text) _ _ e;
   missing = λ before text e o. subst (λ X. X) (sym (in_closing (closes text) _ _ e)) (refl, o);
 }

@@ -43,9 +43,9 @@ rank_low fault.Reach = omega arith
 rank_low (fault.Outside k) = omega arith
 
 -- a fault of form of what stands first behind lines without a fault
-pub form_first : (all front rest : List TextLine) (end : ℕ) (error : BundleError) → closed all end ≡ front ++ closed rest end → IsFaultless (Breaks all) front
-    → Breaks all front (head_of rest end).1 fault.Form → error ≡ At (head_of rest end).0 fault.Form → Faults all end error
-form_first all front rest end error whole f b is = rw is (record {
+pub form_first : (input all front rest : List TextLine) (end : ℕ) (error : BundleError) → closed all end ≡ front ++ closed rest end → IsFaultless (Breaks input all) front
+    → Breaks input all front (head_of rest end).1 fault.Form → error ≡ At (head_of rest end).0 fault.Form → Faults input all end error
+form_first input all front rest end error whole f b is = rw is (record {
   before = front;
   text = (head_of rest end).1;
   after = tail_of rest end;
@@ -57,99 +57,99 @@ form_first all front rest end error whole f b is = rw is (record {
 
 -- ---- the first two lines
 
-pub first_bad : (all : List TextLine) (end : ℕ) (error : BundleError) → IsBadFirst all end error → Faults all end error
-first_bad all end error h = rw h.is (record {
+pub first_bad : (input all : List TextLine) (end : ℕ) (error : BundleError) → IsBadFirst all end error → Faults input all end error
+first_bad input all end error h = rw h.is (record {
   before = [];
   text = (head_of all end).1;
   after = tail_of all end;
   whole = head_tail all end;
-  earlier = faultless_nil (Breaks all);
+  earlier = faultless_nil (Breaks input all);
   breaks = h.bad;
   least = λ other b. let same : Some h.fault ≡ Some other = sym h.bad ∙ b in let e : h.fault ≡ other = cc in rw e (omega arith);
 })
 
-first_good : (all : List TextLine) (first : TextLine) → first_line_fault first.1 ≡ None → IsFaultless (Breaks all) (first ∷ [])
-first_good all first e = faultless_push (Breaks all) [] first (faultless_nil (Breaks all)) (λ k b. absurd (let f : None ≡ Some k = sym e ∙ b in cc))
+first_good : (input all : List TextLine) (first : TextLine) → first_line_fault first.1 ≡ None → IsFaultless (Breaks input all) (first ∷ [])
+first_good input all first e = faultless_push (Breaks input all) [] first (faultless_nil (Breaks input all)) (λ k b. absurd (let f : None ≡ Some k = sym e ∙ b in cc))
 
-pub no_map : (all rest : List TextLine) (end : ℕ) (error : BundleError) → IsBegun all rest → IsMissing (codes "[map]") rest end error → Faults all end error
-no_map all rest end error b m = form_first all (b.first ∷ []) rest end error (ap (λ x. closed x end) b.whole) (first_good all b.first b.good) (refl, m.other) m.is
+pub no_map : (input all rest : List TextLine) (end : ℕ) (error : BundleError) → IsBegun all rest → IsMissing (codes "[map]") rest end error → Faults input all end error
+no_map input all rest end error b m = form_first input all (b.first ∷ []) rest end error (ap (λ x. closed x end) b.whole) (first_good input all b.first b.good) (refl, m.other) m.is
 
 -- ---- behind them
 
 -- behind two lines and the body, so many sections are closed, no line has a fault so far, and the rest follows
-pub record Stage (all : List TextLine) (n : ℕ) (rest : List TextLine) : Type 0 where
+pub record Stage (input all : List TextLine) (n : ℕ) (rest : List TextLine) : Type 0 where
   pub first : TextLine
   pub second : TextLine
   pub body : List TextLine
   pub whole : all ≡ first ∷ second ∷ (body ++ rest)
-  pub faultless : IsFaultless (Breaks all) (first ∷ second ∷ body)
+  pub faultless : IsFaultless (Breaks input all) (first ∷ second ∷ body)
   pub begins : Begins body n
 
-abbrev pub front : {all rest : List TextLine} {n : ℕ} → Stage all n rest → List TextLine
+abbrev pub front : {input all rest : List TextLine} {n : ℕ} → Stage input all n rest → List TextLine
 front s = s.first ∷ s.second ∷ s.body
 
-pub stage_map : (all rest lines : List TextLine) → IsBegun all rest → IsBehind (codes "[map]") rest lines → Stage all 0 lines
-stage_map all rest lines b h = record {
+pub stage_map : (input all rest lines : List TextLine) → IsBegun all rest → IsBehind (codes "[map]") rest lines → Stage input all 0 lines
+stage_map input all rest lines b h = record {
   first = b.first;
   second = (h.number, codes "[map]");
   body = [];
   whole = b.whole ∙ ap (λ x. b.first ∷ x) h.whole;
-  faultless = faultless_push (Breaks all) (b.first ∷ []) (h.number, codes "[map]") (first_good all b.first b.good) (λ k o. absurd (let f : true ≡ false = o.1 in cc));
+  faultless = faultless_push (Breaks input all) (b.first ∷ []) (h.number, codes "[map]") (first_good input all b.first b.good) (λ k o. absurd (let f : true ≡ false = o.1 in cc));
   begins = begins_nothing;
 }
 
-pub stage_closed : (all rest : List TextLine) (n end : ℕ) (s : Stage all n rest) → closed all end ≡ front s ++ closed rest end
-stage_closed all rest n end s = ap (λ x. closed x end) s.whole ∙ ap (λ x. s.first ∷ s.second ∷ x) (append_assoc s.body rest ((end, []) ∷ []))
+pub stage_closed : (input all rest : List TextLine) (n end : ℕ) (s : Stage input all n rest) → closed all end ≡ front s ++ closed rest end
+stage_closed input all rest n end s = ap (λ x. closed x end) s.whole ∙ ap (λ x. s.first ∷ s.second ∷ x) (append_assoc s.body rest ((end, []) ∷ []))
 
 -- the faults of a line of the section
-pub rule : (all rest : List TextLine) (n : ℕ) (s : Stage all n rest) (before : List TextLine) → NoneCloses before → (text : List ℕ) (f : Fault) → Breaks all (front s ++ before) text f ≡ SectionBreaks all n before text f
-rule all rest n s before h text f = λ i. SectionBreaks all (s.begins.count before h i) (s.begins.last before h i) text f
+pub rule : (input all rest : List TextLine) (n : ℕ) (s : Stage input all n rest) (before : List TextLine) → NoneCloses before → (text : List ℕ) (f : Fault) → Breaks input all (front s ++ before) text f ≡ SectionBreaks input all n before text f
+rule input all rest n s before h text f = λ i. SectionBreaks input all (s.begins.count before h i) (s.begins.last before h i) text f
 
 -- ---- a section
 
 -- the rule of the n-th section: a line that doesn't close it has the kinds of Part, and one that does a fault of form
 -- where it isn't the header that is due
-pub record Section {S : Type 0} (all : List TextLine) (n : ℕ) (due : List ℕ) (Part : List TextLine → List ℕ → S → Type 0) (of : S → Fault) : Type 1 where
-  pub stays : (before : List TextLine) (text : List ℕ) (f : Fault) → closes text ≡ false → SectionBreaks all n before text f ≡ Renamed of (λ k. Part before text k) f
-  pub missing : (before : List TextLine) (text : List ℕ) → closes text ≡ true → bytes_eq text due ≡ false → SectionBreaks all n before text fault.Form
+pub record Section {S : Type 0} (input all : List TextLine) (n : ℕ) (due : List ℕ) (Part : List TextLine → List ℕ → S → Type 0) (of : S → Fault) : Type 1 where
+  pub stays : (before : List TextLine) (text : List ℕ) (f : Fault) → closes text ≡ false → SectionBreaks input all n before text f ≡ Renamed of (λ k. Part before text k) f
+  pub missing : (before : List TextLine) (text : List ℕ) → closes text ≡ true → bytes_eq text due ≡ false → SectionBreaks input all n before text fault.Form
 
-module _ {S : Type 0} (all rest : List TextLine) (n : ℕ) (due : List ℕ) (Part : List TextLine → List ℕ → S → Type 0) (of : S → Fault) (s : Stage all n rest) (c : Section all n due Part of) where
-  pub delegates : (lines : List TextLine) → NoneCloses lines → Delegates (Breaks all) Part of (front s) lines
+module _ {S : Type 0} (input all rest : List TextLine) (n : ℕ) (due : List ℕ) (Part : List TextLine → List ℕ → S → Type 0) (of : S → Fault) (s : Stage input all n rest) (c : Section input all n due Part of) where
+  pub delegates : (lines : List TextLine) → NoneCloses lines → Delegates (Breaks input all) Part of (front s) lines
   delegates lines h = record {
     down = λ before line after e kind b.
         let g : NoneCloses (before ++ line ∷ after) = subst NoneCloses e h in
         let x = all_front (λ l. closes l.1 ≡ false) before (line ∷ after) g in
         let y = (all_back (λ l. closes l.1 ≡ false) before (line ∷ after) g).0 in
-        subst (λ X. X) (rule all rest n s before x line.1 kind ∙ c.stays before line.1 kind y) b;
+        subst (λ X. X) (rule input all rest n s before x line.1 kind ∙ c.stays before line.1 kind y) b;
     up = λ before line after e k p.
         let g : NoneCloses (before ++ line ∷ after) = subst NoneCloses e h in
         let x = all_front (λ l. closes l.1 ≡ false) before (line ∷ after) g in
         let y = (all_back (λ l. closes l.1 ≡ false) before (line ∷ after) g).0 in
-        subst (λ X. X) (sym (rule all rest n s before x line.1 (of k) ∙ c.stays before line.1 (of k) y)) (k, refl, p);
+        subst (λ X. X) (sym (rule input all rest n s before x line.1 (of k) ∙ c.stays before line.1 (of k) y)) (k, refl, p);
   }
 
-  pub section_faultless : (lines : List TextLine) → NoneCloses lines → IsFaultless Part lines → IsFaultless (Breaks all) (front s ++ lines)
-  section_faultless lines h f = faultless_section (Breaks all) Part of (front s) lines (delegates lines h) s.faultless f
+  pub section_faultless : (lines : List TextLine) → NoneCloses lines → IsFaultless Part lines → IsFaultless (Breaks input all) (front s ++ lines)
+  section_faultless lines h f = faultless_section (Breaks input all) Part of (front s) lines (delegates lines h) s.faultless f
 
   -- all lines and their end by the section's lines and those from the next header on
   pub section_closed : (lines back : List TextLine) (end : ℕ) → rest ≡ lines ++ back → closed all end ≡ front s ++ (lines ++ closed back end)
   section_closed lines back end e =
-      stage_closed all rest n end s ∙ ap (λ x. front s ++ x) (ap (λ x. closed x end) e ∙ append_assoc lines back ((end, []) ∷ []))
+      stage_closed input all rest n end s ∙ ap (λ x. front s ++ x) (ap (λ x. closed x end) e ∙ append_assoc lines back ((end, []) ∷ []))
 
   pub section_first : (rank_s : S → ℕ) (lines back : List TextLine) (end number : ℕ) (k : S) → ((k : S) → rank (of k) ≡ rank_s k) → NoneCloses lines → rest ≡ lines ++ back
-      → IsFirstFault rank_s Part lines number k → IsFirstFault rank (Breaks all) (closed all end) number (of k)
+      → IsFirstFault rank_s Part lines number k → IsFirstFault rank (Breaks input all) (closed all end) number (of k)
   section_first rank_s lines back end number k same h e f =
-      rw (section_closed lines back end e) (first_in_section rank (Breaks all) rank_s Part of (front s) lines (closed back end) number k same (delegates lines h) s.faultless f)
+      rw (section_closed lines back end e) (first_in_section rank (Breaks input all) rank_s Part of (front s) lines (closed back end) number k same (delegates lines h) s.faultless f)
 
   -- what closes the section isn't the header that is due
-  pub section_missing : (lines back : List TextLine) (end : ℕ) (error : BundleError) → NoneCloses lines → rest ≡ lines ++ back → IsFaultless Part lines → IsClosed back → IsMissing due back end error → Faults all end error
+  pub section_missing : (lines back : List TextLine) (end : ℕ) (error : BundleError) → NoneCloses lines → rest ≡ lines ++ back → IsFaultless Part lines → IsClosed back → IsMissing due back end error → Faults input all end error
   section_missing lines back end error h e f x m =
-      form_first all (front s ++ lines) back end error (section_closed lines back end e ∙ sym (append_assoc (front s) lines (closed back end))) (section_faultless lines h f)
-      (subst (λ X. X) (sym (rule all rest n s lines h (head_of back end).1 fault.Form)) (c.missing lines (head_of back end).1 (head_closes back end x) m.other)) m.is
+      form_first input all (front s ++ lines) back end error (section_closed lines back end e ∙ sym (append_assoc (front s) lines (closed back end))) (section_faultless lines h f)
+      (subst (λ X. X) (sym (rule input all rest n s lines h (head_of back end).1 fault.Form)) (c.missing lines (head_of back end).1 (head_closes back end x) m.other)) m.is
 
   -- it is, and has no fault itself
   pub stage_next : (lines back more : List TextLine) → NoneCloses lines → rest ≡ lines ++ back → IsFaultless Part lines → closes due ≡ true → IsBehind due back more
-      → ((k : Fault) → SectionBreaks all n lines due k → ⊥) → Stage all (n + 1) more
+      → ((k : Fault) → SectionBreaks input all n lines due k → ⊥) → Stage input all (n + 1) more
   stage_next lines back more h e f x b none =
       let line : TextLine = (b.number, due) in
       record {
@@ -158,7 +158,7 @@ module _ {S : Type 0} (all rest : List TextLine) (n : ℕ) (due : List ℕ) (Par
         body = s.body ++ (lines ++ line ∷ []);
         whole = s.whole ∙ ap (λ y. s.first ∷ s.second ∷ (s.body ++ y)) (e ∙ ap (λ y. lines ++ y) b.whole ∙ sym (append_assoc lines (line ∷ []) more)) ∙ ap (λ y. s.first ∷ s.second ∷ y) (sym (append_assoc s.body (lines ++ line ∷ []) more));
         faultless =
-            subst (λ y. IsFaultless (Breaks all) (s.first ∷ s.second ∷ y)) (append_assoc s.body lines (line ∷ []))
-            (faultless_push (Breaks all) (front s ++ lines) line (section_faultless lines h f) (λ k o. none k (subst (λ X. X) (rule all rest n s lines h due k) o)));
+            subst (λ y. IsFaultless (Breaks input all) (s.first ∷ s.second ∷ y)) (append_assoc s.body lines (line ∷ []))
+            (faultless_push (Breaks input all) (front s ++ lines) line (section_faultless lines h f) (λ k o. none k (subst (λ X. X) (rule input all rest n s lines h due k) o)));
         begins = begins_next s.body lines n line s.begins h x;
       }

@@ -56,9 +56,9 @@ pub record AtMap (all r1 r2 lines back : List TextLine) : Type 0 where
   pub shut : IsClosed back
 
 -- and up to the kernels' lines
-pub record AtKernels (all r1 r2 maps back r4 lines after : List TextLine) (labels : List (List ℕ)) (number : ℕ) : Type 0 where
+pub record AtKernels (input all r1 r2 maps back r4 lines after : List TextLine) (labels : List (List ℕ)) (number : ℕ) : Type 0 where
   pub at_map : AtMap all r1 r2 maps back
-  pub names : labels ≡ names_of (kernel_lines all)
+  pub names : labels ≡ names_of (kernel_lines input)
   pub good : IsFaultless (map.Breaks labels) (closed maps number)
   pub header : IsBehind (codes "[kernels]") back r4
   pub own : lines ≡ up_to_header r4
@@ -66,8 +66,8 @@ pub record AtKernels (all r1 r2 maps back r4 lines after : List TextLine) (label
   pub shut : IsClosed after
 
 -- and up to the image's lines
-pub record AtImage (all r1 r2 maps back r4 kernels after r6 lines last : List TextLine) (labels : List (List ℕ)) (number : ℕ) : Type 0 where
-  pub at_kernels : AtKernels all r1 r2 maps back r4 kernels after labels number
+pub record AtImage (input all r1 r2 maps back r4 kernels after r6 lines last : List TextLine) (labels : List (List ℕ)) (number : ℕ) : Type 0 where
+  pub at_kernels : AtKernels input all r1 r2 maps back r4 kernels after labels number
   pub good : IsFaultless (asm.Breaks kernels) kernels
   pub header : IsBehind (codes "[image]") after r6
   pub own : lines ≡ up_to_header r6
@@ -77,124 +77,124 @@ pub record AtImage (all r1 r2 maps back r4 kernels after r6 lines last : List Te
 pub at_map : {all r1 r2 lines back : List TextLine} → IsBegun all r1 → IsBehind (codes "[map]") r1 r2 → lines ≡ up_to_header r2 → r2 ≡ lines ++ back → IsClosed back → AtMap all r1 r2 lines back
 at_map b h o w s = record { begun = b; header = h; own = o; whole = w; shut = s }
 
-pub at_kernels : {all r1 r2 maps back r4 lines after : List TextLine} {labels : List (List ℕ)} {number : ℕ} → AtMap all r1 r2 maps back → labels ≡ names_of (kernel_lines all) → IsFaultless (map.Breaks labels) (closed maps number)
-    → IsBehind (codes "[kernels]") back r4 → lines ≡ up_to_header r4 → r4 ≡ lines ++ after → IsClosed after → AtKernels all r1 r2 maps back r4 lines after labels number
-at_kernels a n g h o w s = record { at_map = a; names = n; good = g; header = h; own = o; whole = w; shut = s }
+pub at_kernels : (input : List TextLine) {all r1 r2 maps back r4 lines after : List TextLine} {labels : List (List ℕ)} {number : ℕ} → AtMap all r1 r2 maps back → labels ≡ names_of (kernel_lines input) → IsFaultless (map.Breaks labels) (closed maps number)
+    → IsBehind (codes "[kernels]") back r4 → lines ≡ up_to_header r4 → r4 ≡ lines ++ after → IsClosed after → AtKernels input all r1 r2 maps back r4 lines after labels number
+at_kernels input a n g h o w s = record { at_map = a; names = n; good = g; header = h; own = o; whole = w; shut = s }
 
-pub at_image : {all r1 r2 maps back r4 kernels after r6 lines last : List TextLine} {labels : List (List ℕ)} {number : ℕ} → AtKernels all r1 r2 maps back r4 kernels after labels number → IsFaultless (asm.Breaks kernels) kernels
-    → IsBehind (codes "[image]") after r6 → lines ≡ up_to_header r6 → r6 ≡ lines ++ last → IsClosed last → AtImage all r1 r2 maps back r4 kernels after r6 lines last labels number
+pub at_image : {input all r1 r2 maps back r4 kernels after r6 lines last : List TextLine} {labels : List (List ℕ)} {number : ℕ} → AtKernels input all r1 r2 maps back r4 kernels after labels number → IsFaultless (asm.Breaks kernels) kernels
+    → IsBehind (codes "[image]") after r6 → lines ≡ up_to_header r6 → r6 ≡ lines ++ last → IsClosed last → AtImage input all r1 r2 maps back r4 kernels after r6 lines last labels number
 at_image a g h o w s = record { at_kernels = a; good = g; header = h; own = o; whole = w; shut = s }
 
-module _ (all r1 r2 maps back : List TextLine) (a : AtMap all r1 r2 maps back) where
+module _ (input all r1 r2 maps back : List TextLine) (a : AtMap all r1 r2 maps back) where
   pub map_none : NoneCloses maps
   map_none = subst NoneCloses (sym a.own) (none_before (λ l. closes l.1) r2)
 
-  pub map_stage : Stage all 0 r2
-  map_stage = stage_map all r1 r2 a.begun a.header
+  pub map_stage : Stage input all 0 r2
+  map_stage = stage_map input all r1 r2 a.begun a.header
 
   pub map_own : map_lines all ≡ maps
   map_own = map_is all r1 r2 a.begun a.header ∙ sym a.own
 
-  pub kernels_missing : (end number : ℕ) (labels : List (List ℕ)) (e : BundleError) → labels ≡ names_of (kernel_lines all) → IsFaultless (map.Breaks labels) (closed maps number) → IsMissing (codes "[kernels]") back end e → Faults all end e
+  pub kernels_missing : (end number : ℕ) (labels : List (List ℕ)) (e : BundleError) → labels ≡ names_of (kernel_lines input) → IsFaultless (map.Breaks labels) (closed maps number) → IsMissing (codes "[kernels]") back end e → Faults input all end e
   kernels_missing end number labels e names good m =
-      section_missing all r2 0 (codes "[kernels]") (map.Breaks (names_of (kernel_lines all))) map_fault map_stage (map_section all) maps back end e map_none a.whole
-      (last_none (map.Breaks (names_of (kernel_lines all))) maps (number, []) (subst (λ l. IsFaultless (map.Breaks l) (closed maps number)) names good)).0 a.shut m
+      section_missing input all r2 0 (codes "[kernels]") (map.Breaks (names_of (kernel_lines input))) map_fault map_stage (map_section input all) maps back end e map_none a.whole
+      (last_none (map.Breaks (names_of (kernel_lines input))) maps (number, []) (subst (λ l. IsFaultless (map.Breaks l) (closed maps number)) names good)).0 a.shut m
 
   -- the map's first fault, where it is that of the line that closes its section
-  map_closing : (end : ℕ) (k : MapKind) → IsFaultless (map.Breaks (names_of (kernel_lines all))) maps → map.Breaks (names_of (kernel_lines all)) maps [] k → Faults all end (At (head_of back end).0 (map_fault k))
+  map_closing : (end : ℕ) (k : MapKind) → IsFaultless (map.Breaks (names_of (kernel_lines input))) maps → map.Breaks (names_of (kernel_lines input)) maps [] k → Faults input all end (At (head_of back end).0 (map_fault k))
   map_closing end k good b =
-      let same = closing_form (names_of (kernel_lines all)) maps k b in
-      let here : SectionBreaks all 0 maps (head_of back end).1 fault.Form =
+      let same = closing_form (names_of (kernel_lines input)) maps k b in
+      let here : SectionBreaks input all 0 maps (head_of back end).1 fault.Form =
       subst (λ X. X) (sym (in_closing (closes (head_of back end).1) _ _ (head_closes back end a.shut))) (inr (k, sym (ap map_fault same), b)) in
-      subst (λ f. Faults all end (At (head_of back end).0 f)) (sym (ap map_fault same))
-      (form_first all (front map_stage ++ maps) back end (At (head_of back end).0 fault.Form)
-      (section_closed all r2 0 (codes "[kernels]") (map.Breaks (names_of (kernel_lines all))) map_fault map_stage (map_section all) maps back end a.whole ∙ sym (append_assoc (front map_stage) maps (closed back end)))
-      (section_faultless all r2 0 (codes "[kernels]") (map.Breaks (names_of (kernel_lines all))) map_fault map_stage (map_section all) maps map_none good)
-      (subst (λ X. X) (sym (rule all r2 0 map_stage maps map_none (head_of back end).1 fault.Form)) here) refl)
+      subst (λ f. Faults input all end (At (head_of back end).0 f)) (sym (ap map_fault same))
+      (form_first input all (front map_stage ++ maps) back end (At (head_of back end).0 fault.Form)
+      (section_closed input all r2 0 (codes "[kernels]") (map.Breaks (names_of (kernel_lines input))) map_fault map_stage (map_section input all) maps back end a.whole ∙ sym (append_assoc (front map_stage) maps (closed back end)))
+      (section_faultless input all r2 0 (codes "[kernels]") (map.Breaks (names_of (kernel_lines input))) map_fault map_stage (map_section input all) maps map_none good)
+      (subst (λ X. X) (sym (rule input all r2 0 map_stage maps map_none (head_of back end).1 fault.Form)) here) refl)
 
-  map_first : (end number line : ℕ) (k : MapKind) → number ≡ (head_of back end).0 → IsFirstFault map.rank (map.Breaks (names_of (kernel_lines all))) (closed maps number) line k → Faults all end (At line (map_fault k))
-  map_first end number line k n f = elim (last_first map.rank (map.Breaks (names_of (kernel_lines all))) maps (number, []) line k f) [
-    | inl first ↦ section_first all r2 0 (codes "[kernels]") (map.Breaks (names_of (kernel_lines all))) map_fault map_stage (map_section all) map.rank maps back end line k map_rank map_none a.whole first
-    | inr last ↦ subst (λ x. Faults all end (At x (map_fault k))) (sym (last.1 ∙ n)) (map_closing end k last.0 last.2)
+  map_first : (end number line : ℕ) (k : MapKind) → number ≡ (head_of back end).0 → IsFirstFault map.rank (map.Breaks (names_of (kernel_lines input))) (closed maps number) line k → Faults input all end (At line (map_fault k))
+  map_first end number line k n f = elim (last_first map.rank (map.Breaks (names_of (kernel_lines input))) maps (number, []) line k f) [
+    | inl first ↦ section_first input all r2 0 (codes "[kernels]") (map.Breaks (names_of (kernel_lines input))) map_fault map_stage (map_section input all) map.rank maps back end line k map_rank map_none a.whole first
+    | inr last ↦ subst (λ x. Faults input all end (At x (map_fault k))) (sym (last.1 ∙ n)) (map_closing end k last.0 last.2)
   ]
 
-  pub map_faults : (end number : ℕ) (labels : List (List ℕ)) (e : MapError) → labels ≡ names_of (kernel_lines all) → number ≡ (head_of back end).0 → map.Faults labels (closed maps number) e → Faults all end (kinds.map_error e)
+  pub map_faults : (end number : ℕ) (labels : List (List ℕ)) (e : MapError) → labels ≡ names_of (kernel_lines input) → number ≡ (head_of back end).0 → map.Faults labels (closed maps number) e → Faults input all end (kinds.map_error e)
   map_faults end number labels map_error.Memory names n f = tt
   map_faults end number labels (map_error.At line k) names n f = map_first end number line k n (subst (λ l. IsFirstFault map.rank (map.Breaks l) (closed maps number) line k) names f)
 
-module _ (all r1 r2 maps back r4 lines after : List TextLine) (labels : List (List ℕ)) (number : ℕ) (a : AtKernels all r1 r2 maps back r4 lines after labels number) where
+module _ (input all r1 r2 maps back r4 lines after : List TextLine) (labels : List (List ℕ)) (number : ℕ) (a : AtKernels input all r1 r2 maps back r4 lines after labels number) where
   pub kernels_none : NoneCloses lines
   kernels_none = subst NoneCloses (sym a.own) (none_before (λ l. closes l.1) r4)
 
   pub kernels_own : kernel_lines all ≡ lines
-  kernels_own = kernels_is all r1 r2 maps back r4 a.at_map.begun a.at_map.header a.at_map.whole (map_none all r1 r2 maps back a.at_map) a.header ∙ sym a.own
+  kernels_own = kernels_is all r1 r2 maps back r4 a.at_map.begun a.at_map.header a.at_map.whole (map_none input all r1 r2 maps back a.at_map) a.header ∙ sym a.own
 
-  pub kernels_stage : Stage all 1 r4
+  pub kernels_stage : Stage input all 1 r4
   kernels_stage =
-      let good = last_none (map.Breaks (names_of (kernel_lines all))) maps (number, []) (subst (λ l. IsFaultless (map.Breaks l) (closed maps number)) a.names a.good) in
-      stage_next all r2 0 (codes "[kernels]") (map.Breaks (names_of (kernel_lines all))) map_fault (map_stage all r1 r2 maps back a.at_map) (map_section all) maps back r4 (map_none all r1 r2 maps back a.at_map) a.at_map.whole
+      let good = last_none (map.Breaks (names_of (kernel_lines input))) maps (number, []) (subst (λ l. IsFaultless (map.Breaks l) (closed maps number)) a.names a.good) in
+      stage_next input all r2 0 (codes "[kernels]") (map.Breaks (names_of (kernel_lines input))) map_fault (map_stage input all r1 r2 maps back a.at_map) (map_section input all) maps back r4 (map_none input all r1 r2 maps back a.at_map) a.at_map.whole
       good.0 refl a.header (λ k o. elim o [ inl x ↦ absurd (let f : true ≡ false = x.1 in cc) | inr x ↦ good.1 x.0 x.2 ])
 
   own_rule : IsFaultless (asm.Breaks lines) lines → IsFaultless (asm.Breaks (kernel_lines all)) lines
   own_rule f = subst (λ l. IsFaultless (asm.Breaks l) lines) (sym kernels_own) f
 
-  pub kernels_faults : (end : ℕ) (e : AsmError) → asm.Faults lines e → Faults all end (kinds.kernel_error e)
+  pub kernels_faults : (end : ℕ) (e : AsmError) → asm.Faults lines e → Faults input all end (kinds.kernel_error e)
   kernels_faults end asm_error.Memory f = tt
   kernels_faults end (asm_error.At line k) f =
-      section_first all r4 1 (codes "[image]") (asm.Breaks (kernel_lines all)) kernel_fault kernels_stage (kernel_section all) asm.rank lines after end line k kernel_rank kernels_none a.whole
+      section_first input all r4 1 (codes "[image]") (asm.Breaks (kernel_lines all)) kernel_fault kernels_stage (kernel_section input all) asm.rank lines after end line k kernel_rank kernels_none a.whole
       (subst (λ l. IsFirstFault asm.rank (asm.Breaks l) lines line k) (sym kernels_own) f)
 
-  pub image_missing : (end : ℕ) (e : BundleError) → IsFaultless (asm.Breaks lines) lines → IsMissing (codes "[image]") after end e → Faults all end e
+  pub image_missing : (end : ℕ) (e : BundleError) → IsFaultless (asm.Breaks lines) lines → IsMissing (codes "[image]") after end e → Faults input all end e
   image_missing end e good m =
-      section_missing all r4 1 (codes "[image]") (asm.Breaks (kernel_lines all)) kernel_fault kernels_stage (kernel_section all) lines after end e kernels_none a.whole (own_rule good) a.shut m
+      section_missing input all r4 1 (codes "[image]") (asm.Breaks (kernel_lines all)) kernel_fault kernels_stage (kernel_section input all) lines after end e kernels_none a.whole (own_rule good) a.shut m
 
-module _ (all r1 r2 maps back r4 kernels after r6 lines last : List TextLine) (labels : List (List ℕ)) (number : ℕ) (a : AtImage all r1 r2 maps back r4 kernels after r6 lines last labels number) where
+module _ (input all r1 r2 maps back r4 kernels after r6 lines last : List TextLine) (labels : List (List ℕ)) (number : ℕ) (a : AtImage input all r1 r2 maps back r4 kernels after r6 lines last labels number) where
   pub image_none : NoneCloses lines
   image_none = subst NoneCloses (sym a.own) (none_before (λ l. closes l.1) r6)
 
   pub image_own : image_lines all ≡ lines
   image_own =
       let k = a.at_kernels in
-      image_is all r1 r2 maps back r4 kernels after r6 k.at_map.begun k.at_map.header k.at_map.whole (map_none all r1 r2 maps back k.at_map) k.header k.whole
-      (kernels_none all r1 r2 maps back r4 kernels after labels number k) a.header ∙ sym a.own
+      image_is all r1 r2 maps back r4 kernels after r6 k.at_map.begun k.at_map.header k.at_map.whole (map_none input all r1 r2 maps back k.at_map) k.header k.whole
+      (kernels_none input all r1 r2 maps back r4 kernels after labels number k) a.header ∙ sym a.own
 
-  pub image_stage : Stage all 2 r6
+  pub image_stage : Stage input all 2 r6
   image_stage =
       let k = a.at_kernels in
-      stage_next all r4 1 (codes "[image]") (asm.Breaks (kernel_lines all)) kernel_fault (kernels_stage all r1 r2 maps back r4 kernels after labels number k) (kernel_section all) kernels after r6
-      (kernels_none all r1 r2 maps back r4 kernels after labels number k) k.whole (own_rule all r1 r2 maps back r4 kernels after labels number k a.good) refl a.header (λ f o. absurd (let x : true ≡ false = o.1 in cc))
+      stage_next input all r4 1 (codes "[image]") (asm.Breaks (kernel_lines all)) kernel_fault (kernels_stage input all r1 r2 maps back r4 kernels after labels number k) (kernel_section input all) kernels after r6
+      (kernels_none input all r1 r2 maps back r4 kernels after labels number k) k.whole (own_rule input all r1 r2 maps back r4 kernels after labels number k a.good) refl a.header (λ f o. absurd (let x : true ≡ false = o.1 in cc))
 
   words_own : (w : ℕ) → w ≡ (map_of maps).words → w ≡ (map_of (map_lines all)).words
-  words_own w e = e ∙ ap (λ l. (map_of l).words) (sym (map_own all r1 r2 maps back a.at_kernels.at_map))
+  words_own w e = e ∙ ap (λ l. (map_of l).words) (sym (map_own input all r1 r2 maps back a.at_kernels.at_map))
 
-  pub image_faults : (end w : ℕ) (e : ImageError) → w ≡ (map_of maps).words → image_answer.Faults w lines e → Faults all end (kinds.image_error e)
+  pub image_faults : (end w : ℕ) (e : ImageError) → w ≡ (map_of maps).words → image_answer.Faults w lines e → Faults input all end (kinds.image_error e)
   image_faults end w image_error.Memory h f = tt
   image_faults end w (image_error.At line k) h f =
-      section_first all r6 2 (codes "[end]") (image.Breaks (map_of (map_lines all)).words) image_fault image_stage (image_section all) image.rank lines last end line k image_rank image_none a.whole
+      section_first input all r6 2 (codes "[end]") (image.Breaks (map_of (map_lines all)).words) image_fault image_stage (image_section input all) image.rank lines last end line k image_rank image_none a.whole
       (subst (λ x. IsFirstFault image.rank (image.Breaks x) lines line k) (words_own w h) f)
 
-  pub end_missing : (end w : ℕ) (e : BundleError) → w ≡ (map_of maps).words → IsFaultless (image.Breaks w) lines → IsMissing (codes "[end]") last end e → Faults all end e
+  pub end_missing : (end w : ℕ) (e : BundleError) → w ≡ (map_of maps).words → IsFaultless (image.Breaks w) lines → IsMissing (codes "[end]") last end e → Faults input all end e
   end_missing end w e h good m =
-      section_missing all r6 2 (codes "[end]") (image.Breaks (map_of (map_lines all)).words) image_fault image_stage (image_section all) lines last end e image_none a.whole
+      section_missing input all r6 2 (codes "[end]") (image.Breaks (map_of (map_lines all)).words) image_fault image_stage (image_section input all) lines last end e image_none a.whole
       (subst (λ x. IsFaultless (image.Breaks x) lines) (words_own w h) good) a.shut m
 
-  end_stage : (w : ℕ) (rest : List TextLine) → w ≡ (map_of maps).words → IsFaultless (image.Breaks w) lines → IsBehind (codes "[end]") last rest → Stage all 3 rest
+  end_stage : (w : ℕ) (rest : List TextLine) → w ≡ (map_of maps).words → IsFaultless (image.Breaks w) lines → IsBehind (codes "[end]") last rest → Stage input all 3 rest
   end_stage w rest h good b =
-      stage_next all r6 2 (codes "[end]") (image.Breaks (map_of (map_lines all)).words) image_fault image_stage (image_section all) lines last rest image_none a.whole
+      stage_next input all r6 2 (codes "[end]") (image.Breaks (map_of (map_lines all)).words) image_fault image_stage (image_section input all) lines last rest image_none a.whole
       (subst (λ x. IsFaultless (image.Breaks x) lines) (words_own w h) good) refl b (λ f o. absurd (let x : true ≡ false = o.1 in cc))
 
-  pub left_faults : (end w : ℕ) (rest : List TextLine) (e : BundleError) → w ≡ (map_of maps).words → IsFaultless (image.Breaks w) lines → IsBehind (codes "[end]") last rest → IsLeftOver rest e → Faults all end e
-  left_faults end w rest e h good b l = past_first all end rest (end_stage w rest h good b) e l
+  pub left_faults : (end w : ℕ) (rest : List TextLine) (e : BundleError) → w ≡ (map_of maps).words → IsFaultless (image.Breaks w) lines → IsBehind (codes "[end]") last rest → IsLeftOver rest e → Faults input all end e
+  left_faults end w rest e h good b l = past_first input all end rest (end_stage w rest h good b) e l
 
-  pub is_bundle : (end w : ℕ) (rest : List TextLine) → w ≡ (map_of maps).words → IsFaultless (image.Breaks w) lines → IsBehind (codes "[end]") last rest → AllBlank rest → IsBundle all end
-  is_bundle end w rest h good b l = past_none all end rest (end_stage w rest h good b) l
+  pub is_bundle : (end w : ℕ) (rest : List TextLine) → w ≡ (map_of maps).words → IsFaultless (image.Breaks w) lines → IsBehind (codes "[end]") last rest → AllBlank rest → IsBundle input all end
+  is_bundle end w rest h good b l = past_none input all end rest (end_stage w rest h good b) l
 
   -- the program and the image are those that the lines spell
   pub value_is : (w : ℕ) (m : MapValue) (code : List ℕ) (marks : List Label) (program : ProgramValue) (words : List ℕ) → w ≡ m.words → m ≡ map_of maps → code ≡ code_of kernels kernels → marks ≡ labels_of kernels
       → program ≡ program_with m code marks → words ≡ image_of w lines → record { program = program; image = words } ≡ bundle_of all
   value_is w m code marks program words wm ms cs ls ps ws =
-      let maps_same = ms ∙ ap map_of (sym (map_own all r1 r2 maps back a.at_kernels.at_map)) in
-      let own = sym (kernels_own all r1 r2 maps back r4 kernels after labels number a.at_kernels) in
+      let maps_same = ms ∙ ap map_of (sym (map_own input all r1 r2 maps back a.at_kernels.at_map)) in
+      let own = sym (kernels_own input all r1 r2 maps back r4 kernels after labels number a.at_kernels) in
       let program_same : program ≡ program_of all = ps ∙ (λ i. program_with (maps_same i) ((cs ∙ ap (λ l. code_of l l) own) i) ((ls ∙ ap labels_of own) i)) in
       let image_same : words ≡ image_of (map_of (map_lines all)).words (image_lines all) = ws ∙ (λ i. image_of ((wm ∙ ap (λ (x : MapValue). x.words) maps_same) i) (sym image_own i)) in
       λ i. record { program = program_same i; image = image_same i }

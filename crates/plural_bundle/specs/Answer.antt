@@ -8,11 +8,12 @@ use Rattle.plural_bundle.specs.Rules.{Breaks}
 use Rattle.plural_bundle.specs.declared.fault.BundleError.{BundleError}
 use Rattle.plural_bundle.specs.declared.fault.BundleError.TheVariants.{At, Memory}
 
--- The lines are a bundle: none has a fault, nor has the end of the text, which is seen as a line without text of number `end`.
-abbrev pub IsBundle : List TextLine → (end : ℕ) → Type 0
-IsBundle lines end = IsFaultless (Breaks lines) (closed lines end)
+-- The lines of this input are a bundle: none has a fault, nor has the end of the text, which is seen as a line without
+-- text of number `end`.
+abbrev pub IsBundle : (input lines : List TextLine) (end : ℕ) → Type 0
+IsBundle input lines end = IsFaultless (Breaks input lines) (closed lines end)
 
 -- An error with a line is the first fault of the lines and their end; want of memory says nothing of them.
-abbrev pub Faults : List TextLine → (end : ℕ) → BundleError → Type 0
-Faults lines end Memory = ⊤
-Faults lines end (At line fault) = IsFirstFault rank (Breaks lines) (closed lines end) line fault
+abbrev pub Faults : (input lines : List TextLine) (end : ℕ) → BundleError → Type 0
+Faults input lines end Memory = ⊤
+Faults input lines end (At line fault) = IsFirstFault rank (Breaks input lines) (closed lines end) line fault

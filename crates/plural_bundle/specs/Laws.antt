@@ -48,11 +48,12 @@ pub record AreGood (p : Parts) : Type 0 where
   pub image_stays : Stay p.image_part
   pub image_good : IsFaultless (image.Breaks (map_of p.map_part).words) p.image_part
 
--- The lines of parts without a fault are a bundle, of the program and the image that the parts spell.
+-- The lines of parts without a fault are a bundle, whatever follows them in the input, of the program and the image that
+-- the parts spell.
 abbrev pub PartsMakeABundle : Type 0
-PartsMakeABundle = (p : Parts) (end : ℕ) → AreGood p → IsBundle (lines_of p) end
+PartsMakeABundle = (p : Parts) (more : List TextLine) (end : ℕ) → AreGood p → IsBundle (lines_of p ++ more) (lines_of p) end
     × (bundle_of (lines_of p) ≡ record { program = program_with (map_of p.map_part) (code_of p.kernel_part p.kernel_part) (labels_of p.kernel_part); image = image_of (map_of p.map_part).words p.image_part })
 
--- A bundle whose lines have text is the lines of parts without a fault.
+-- A bundle whose lines have text, with which an input begins, is the lines of parts without a fault.
 abbrev pub ABundleHasParts : Type 0
-ABundleHasParts = (lines : List TextLine) (end : ℕ) → AllByRecursion (λ l. has_text l.1 ≡ true) lines → IsBundle lines end → (p : Parts) × (lines ≡ lines_of p) × AreGood p
+ABundleHasParts = (lines more : List TextLine) (end : ℕ) → AllByRecursion (λ l. has_text l.1 ≡ true) lines → IsBundle (lines ++ more) lines end → (p : Parts) × (lines ≡ lines_of p) × AreGood p

@@ -1,4 +1,5 @@
--- The faults of a bundle's lines: which kinds a line has, by all lines of the bundle and those before it.
+-- The faults of a bundle's lines: which kinds a line has, by the lines of the input, all lines of the bundle and those
+-- before it.
 use Rattle.std.specs.Prelude.{ℕ, zero, suc, ◌≡◌, ◌⊎◌, Bool, true, false, List, [], ◌∷◌, Some, codes, bytes_eq}
 use Rattle.plural_bytes.specs.Lines.{TextLine, has_text}
 use Rattle.plural_map.specs.Rules as map
@@ -45,16 +46,17 @@ abbrev pub PastBreaks : List ℕ → Fault → Type 0
 PastBreaks text fault = (fault ≡ Form) × (has_text text ≡ true)
 
 -- A line behind so many sections that were closed, by the lines before it in its own: the map's section is the first,
--- the kernels' the second, the image's the third, and nothing follows.
-abbrev pub SectionBreaks : List TextLine → ℕ → List TextLine → List ℕ → Fault → Type 0
-SectionBreaks all zero before text fault = MapBreaks (names_of (kernel_lines all)) before text fault
-SectionBreaks all (suc zero) before text fault = KernelBreaks (kernel_lines all) before text fault
-SectionBreaks all (suc (suc zero)) before text fault = ImageBreaks (map_of (map_lines all)).words before text fault
-SectionBreaks all (suc (suc (suc n))) before text fault = PastBreaks text fault
+-- the kernels' the second, the image's the third, and nothing follows. The names that map lines may use are those of the
+-- kernel lines of the input that the bundle stands in.
+abbrev pub SectionBreaks : (input all : List TextLine) → ℕ → List TextLine → List ℕ → Fault → Type 0
+SectionBreaks input all zero before text fault = MapBreaks (names_of (kernel_lines input)) before text fault
+SectionBreaks input all (suc zero) before text fault = KernelBreaks (kernel_lines all) before text fault
+SectionBreaks input all (suc (suc zero)) before text fault = ImageBreaks (map_of (map_lines all)).words before text fault
+SectionBreaks input all (suc (suc (suc n))) before text fault = PastBreaks text fault
 
 -- A line of a bundle of all these lines, behind those before it: the first is `plural` and a version, the second is the
--- header of the map, and the others stand in a section. The names that map lines may use are those of the kernel lines.
-abbrev pub Breaks : List TextLine → List TextLine → List ℕ → Fault → Type 0
-Breaks all [] text fault = first_line_fault text ≡ Some fault
-Breaks all (first ∷ []) text fault = IsNot (codes "[map]") text fault
-Breaks all (first ∷ second ∷ before) text fault = SectionBreaks all (closings before) (since before) text fault
+-- header of the map, and the others stand in a section.
+abbrev pub Breaks : (input all : List TextLine) → List TextLine → List ℕ → Fault → Type 0
+Breaks input all [] text fault = first_line_fault text ≡ Some fault
+Breaks input all (first ∷ []) text fault = IsNot (codes "[map]") text fault
+Breaks input all (first ∷ second ∷ before) text fault = SectionBreaks input all (closings before) (since before) text fault

@@ -17,18 +17,24 @@ use plural_map::parse;
 use std::alloc::Global;
 
 /// The program and the image that the content lines of a bundle spell, or their first fault. The
-/// names that an entry may be are those at the label positions of its kernel lines. `end` is the
-/// number of the line that a text which ends too early is charged to.
-pub fn read_bundle(alloc: Global, lines: &[Line<'_>], end: u32) -> Result<Bundle, BundleError>
+/// names that an entry may be are those at the label positions of the kernel lines of `input`, which
+/// are the content lines of the whole text that the bundle stands in: its own where nothing follows
+/// it. `end` is the number of the line that a text which ends too early is charged to.
+pub fn read_bundle(
+    alloc: Global,
+    input: &[Line<'_>],
+    lines: &[Line<'_>],
+    end: u32,
+) -> Result<Bundle, BundleError>
     requires { length lines.now ≤ 67108864 }
     ensures answer { MatchResult result
-        (λ b. IsBundle (text_lines lines.now) end × (b ≡ bundle_of (text_lines lines.now)))
-        (Faults (text_lines lines.now) end) }
+        (λ b. IsBundle (text_lines input.now) (text_lines lines.now) end × (b ≡ bundle_of (text_lines lines.now)))
+        (Faults (text_lines input.now) (text_lines lines.now) end) }
     ensures image { IfOk result (λ b. length b.image ≡ b.program.map.words) }
     ensures whole { IfOk result (λ b. length b.image % 8 ≡ 0) }
     ensures small { IfOk result (λ b. length b.image ≤ 1048576) }
 {
-    let labels = names(alloc, kernel_lines(lines))?;
+    let labels = names(alloc, kernel_lines(input))?;
     let map = next_section(behind(behind_first(lines, end)?, b"[map]", end)?);
     let tasks = parse(alloc, map.lines, &labels, first_number(map.rest, end), 1)?;
     let kernels = next_section(behind(map.rest, b"[kernels]", end)?);

@@ -74,7 +74,8 @@ fn kernels_start(lines: &[Line<'_>]) -> usize
     }
 }
 
-/// The kernel lines of a bundle; none where no line is the header of the kernels.
+/// The lines behind the first that is the header of the kernels, up to the next header; none where
+/// no line is the header of the kernels.
 pub(crate) fn kernel_lines<'a, 'b>(lines: &'a [Line<'b>]) -> &'a [Line<'b>]
     ensures { text_lines result.now ≡ kernel_lines (text_lines lines.now) }
 {

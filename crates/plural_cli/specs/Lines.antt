@@ -12,13 +12,13 @@ use Rattle.plural_cli.specs.FaultLine.{bundle_fault_text, IsRefused}
 abbrev pub line_behind : List ℕ → ℕ
 line_behind bytes = length (pieces bytes) + 1
 
--- The lines have a fault, and the answer tells the first.
-abbrev pub IsFaulty : (lines : List TextLine) (end : ℕ) (status : ℕ) (text : List ℕ) → Type 0
-IsFaulty lines end status text = IsRefused rank bundle_fault_text (Breaks lines) (closed lines end) status text
+-- The lines of this input have a fault as a bundle, and the answer tells the first.
+abbrev pub IsFaulty : (input lines : List TextLine) (end : ℕ) (status : ℕ) (text : List ℕ) → Type 0
+IsFaulty input lines end status text = IsRefused rank bundle_fault_text (Breaks input lines) (closed lines end) status text
 
 -- The lines are a bundle, and the answer is one to this bundle; or they have a fault, and the answer tells the first.
 abbrev pub LinesToBundle : (BundleValue → (status : ℕ) (text : List ℕ) → Type 0) → (lines : List TextLine) (end : ℕ) (status : ℕ) (text : List ℕ) → Type 0
-LinesToBundle Is lines end status text = (IsBundle lines end × Is (bundle_of lines) status text) ⊎ IsFaulty lines end status text
+LinesToBundle Is lines end status text = (IsBundle lines lines end × Is (bundle_of lines) status text) ⊎ IsFaulty lines lines end status text
 
 -- The answer to an input is that to its content lines.
 abbrev pub ToBundle : (BundleValue → (status : ℕ) (text : List ℕ) → Type 0) → (bytes : List ℕ) (status : ℕ) (text : List ℕ) → Type 0

@@ -7,15 +7,15 @@ use Rattle.plural_cli.specs.Lines.{IsFaulty}
 use Rattle.plural_cli.specs.declared.reading.Reading.{Reading}
 use Rattle.plural_cli.specs.declared.reading.Reading.TheVariants.{Whole, Faulty}
 
--- The lines are a bundle of this value, whose image has the words of its map.
-pub record IsWhole (lines : List TextLine) (end : ℕ) (b : BundleValue) : Type 0 where
-  pub bundle : IsBundle lines end
+-- The lines of this input are a bundle of this value, whose image has the words of its map.
+pub record IsWhole (input lines : List TextLine) (end : ℕ) (b : BundleValue) : Type 0 where
+  pub bundle : IsBundle input lines end
   pub value : b ≡ bundle_of lines
   pub image : length b.image ≡ b.program.map.words
   pub rows : length b.image % 8 ≡ 0
   pub small : length b.image ≤ 1048576
 
 -- A bundle was read where the lines are one, and else the answer tells the first fault.
-abbrev pub IsReading : (lines : List TextLine) (end : ℕ) → Reading → Type 0
-IsReading lines end (Whole b) = IsWhole lines end b
-IsReading lines end (Faulty a) = IsFaulty lines end a.status a.text.items
+abbrev pub IsReading : (input lines : List TextLine) (end : ℕ) → Reading → Type 0
+IsReading input lines end (Whole b) = IsWhole input lines end b
+IsReading input lines end (Faulty a) = IsFaulty input lines end a.status a.text.items

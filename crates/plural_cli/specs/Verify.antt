@@ -68,14 +68,14 @@ IsFaultyOutput b lines end status text = IsRefused rank bundle_fault_text (Break
 abbrev pub IsOutputAnswer : BundleValue → (lines : List TextLine) (end : ℕ) (status : ℕ) (text : List ℕ) → Type 0
 IsOutputAnswer b lines end status text = IsReadWhole b lines end status text ⊎ IsFaultyOutput b lines end status text
 
--- Lines of which the first part is a bundle: the output behind it is answered.
-pub record IsBundleAndOutput (bundle output : List TextLine) (end : ℕ) (status : ℕ) (text : List ℕ) : Type 0 where
-  pub whole : IsBundle bundle end
+-- An input of which the first part is a bundle: the output behind it is answered.
+pub record IsBundleAndOutput (input bundle output : List TextLine) (end : ℕ) (status : ℕ) (text : List ℕ) : Type 0 where
+  pub whole : IsBundle input bundle end
   pub answer : IsOutputAnswer (bundle_of bundle) output end status text
 
 -- The lines up to the first `[end]` have a fault, which is told; or they are a bundle, and the output behind is judged.
 abbrev pub IsJointAnswer : (lines : List TextLine) (end : ℕ) (status : ℕ) (text : List ℕ) → Type 0
-IsJointAnswer lines end status text = IsFaulty (bundle_part lines) end status text ⊎ IsBundleAndOutput (bundle_part lines) (output_part lines) end status text
+IsJointAnswer lines end status text = IsFaulty lines (bundle_part lines) end status text ⊎ IsBundleAndOutput lines (bundle_part lines) (output_part lines) end status text
 
 -- The answer to an input is that to its content lines.
 abbrev pub IsVerifyAnswer : (bytes : List ℕ) (status : ℕ) (text : List ℕ) → Type 0

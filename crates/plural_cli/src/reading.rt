@@ -51,12 +51,17 @@ pub(crate) fn bundle_fault(alloc: Global, line: u32, fault: Fault) -> Result<Ans
     fault_answer(alloc, line, &word)
 }
 
-/// What content lines are of which `end` is the number of the line behind the last.
-pub(crate) fn read_lines(alloc: Global, lines: &[Line<'_>], end: u32) -> Result<Reading, Memory>
+/// What content lines of an input are, where `end` is the number of the line behind the input's last.
+pub(crate) fn read_lines<'b>(
+    alloc: Global,
+    input: &[Line<'b>],
+    lines: &[Line<'b>],
+    end: u32,
+) -> Result<Reading, Memory>
     requires { length lines.now ≤ 67108864 }
-    ensures { IfOk result (λ r. IsReading (text_lines lines.now) end r) }
+    ensures { IfOk result (λ r. IsReading (text_lines input.now) (text_lines lines.now) end r) }
 {
-    match read_bundle(alloc, lines, end) {
+    match read_bundle(alloc, input, lines, end) {
         Ok(bundle) => Ok(Reading::Whole(bundle)),
         Err(BundleError::At { line, fault }) => {
             Ok(Reading::Faulty(bundle_fault(alloc, line, fault)?))
@@ -68,8 +73,9 @@ pub(crate) fn read_lines(alloc: Global, lines: &[Line<'_>], end: u32) -> Result<
 /// What an input is that is not too long.
 pub(crate) fn read(alloc: Global, bytes: &[u8]) -> Result<Reading, Memory>
     requires { length bytes.now ≤ 16777216 }
-    ensures { IfOk result (λ r. IsReading (content_lines bytes.now) (line_behind bytes.now) r) }
+    ensures { IfOk result (λ r. IsReading (content_lines bytes.now) (content_lines bytes.now) (line_behind bytes.now) r) }
 {
     let lines = split(alloc, bytes)?;
-    read_lines(alloc, &lines, line_count(bytes) + 1)
+    let lines = lines.as_slice();
+    read_lines(alloc, lines, lines, line_count(bytes) + 1)
 }

@@ -110,7 +110,7 @@ fn joint_answer(alloc: Global, lines: &[Line<'_>], end: u32) -> Result<Answer, M
     ensures told { IfOk result (λ a. IsTold a.status) }
 {
     let parts = split_parts(lines);
-    match read_lines(alloc, parts.bundle, end)? {
+    match read_lines(alloc, lines, parts.bundle, end)? {
         Reading::Faulty(answer) => Ok(answer),
         Reading::Whole(bundle) => output_answer(alloc, &bundle, parts.output, end),
     }

@@ -80,7 +80,7 @@ fn the_filter_has_its_outcomes_records_and_memory(rt: HostRuntime) -> Result<(),
     assert!(rt; lines.len() < 100_000);
     let count = line_count(&text);
     assert!(rt; count < 100_000);
-    let bundle = read_bundle(alloc, &lines, count + 1)
+    let bundle = read_bundle(alloc, &lines, &lines, count + 1)
         .ok()
         .ok_or("a bundle")?;
     let answer = serial(alloc, &bundle.program, &bundle.image)?;

@@ -22,7 +22,7 @@ const END: &str = "[image]\n[end]\n";
 #[test]
 fn an_output_is_judged_by_the_first_rule_that_fails(rt: HostRuntime) -> Result<(), Fail> {
     let alloc = rt.alloc();
-    let rows: [([&str; 6], u8, &str); 11] = [
+    let rows: [([&str; 6], u8, &str); 13] = [
         (
             [BUNDLE, "log 1 cores 1\n", OUTCOMES, A, B, END],
             0,
@@ -115,6 +115,31 @@ fn an_output_is_judged_by_the_first_rule_that_fails(rt: HostRuntime) -> Result<(
             [BUNDLE, "log 1 cores 1\n", "task b ended 0\n", A, B, END],
             3,
             "fault: line 13: name\n",
+        ),
+        // Where no kernels stand up to the first `[end]`: entries are named by those behind it.
+        (
+            [
+                "plural 1\n[map]\nmemory 8\ncache 1 1\ntask a regular entry e budget 9\n",
+                "[end]\n[kernels]\ne: ecall\n[image]\n",
+                "",
+                "",
+                "",
+                "",
+            ],
+            3,
+            "fault: line 6: form\n",
+        ),
+        (
+            [
+                "plural 1\n[map]\nmemory 8\ncache 1 1\ntask a regular entry e budget 9\n",
+                "[end]\n[kernels]\nf: ecall\n[image]\n",
+                "",
+                "",
+                "",
+                "",
+            ],
+            3,
+            "fault: line 5: name\n",
         ),
         (
             [CLASHING, "log 1 cores 1\n", OUTCOMES, A, B, END],

@@ -62,7 +62,7 @@ fn read(alloc: Global, text: &[u8]) -> Result<Result<Bundle, (u32, Fault)>, Fail
     if count > 10_000 {
         return Err("too many lines".into());
     }
-    match read_bundle(alloc, &lines, count + 1) {
+    match read_bundle(alloc, &lines, &lines, count + 1) {
         Ok(bundle) => Ok(Ok(bundle)),
         Err(BundleError::At { line, fault }) => Ok(Err((line, fault))),
         Err(BundleError::Memory) => Err("memory".into()),
@@ -275,5 +275,32 @@ fn a_bundle_has_its_first_fault(rt: HostRuntime) -> Result<(), Fail> {
     }
     let text = text_of(rt.alloc(), &LINES, "\r\n")?;
     assert_eq!(rt; fault(rt.alloc(), text.as_bytes())?, None);
+    Ok(())
+}
+
+/// The first fault of the first seven lines of the bundle of one task, which end before its kernels,
+/// where an input has those lines alone or all.
+fn fault_of_front(alloc: Global, whole: bool) -> Result<Option<(u32, Fault)>, Fail> {
+    let text = text_of(alloc, &LINES, "\n")?;
+    if text.len() > 10_000 {
+        return Err("too long".into());
+    }
+    let lines: Vec<Line> = split(alloc, text.as_bytes()).ok().ok_or("lines")?;
+    if lines.len() > 10_000 {
+        return Err("too many lines".into());
+    }
+    let front = lines.get(..7).ok_or("seven lines")?;
+    let input = if whole { lines.as_slice() } else { front };
+    match read_bundle(alloc, input, front, 17) {
+        Ok(_) => Ok(None),
+        Err(BundleError::At { line, fault }) => Ok(Some((line, fault))),
+        Err(BundleError::Memory) => Err("memory".into()),
+    }
+}
+
+#[test]
+fn an_entry_is_named_by_the_kernels_of_the_whole_input(rt: HostRuntime) -> Result<(), Fail> {
+    assert_eq!(rt; fault_of_front(rt.alloc(), false)?, Some((5, Fault::Name)));
+    assert_eq!(rt; fault_of_front(rt.alloc(), true)?, Some((17, Fault::Form)));
     Ok(())
 }

@@ -10,10 +10,10 @@ pub overflow_add-line_count : goal.overflow_add-line_count
 overflow_add-line_count c = omega (arith, c.requires, length-pieces c.args.bytes.now, c.line_count.ensures)
 
 pub read_lines-requires : goal.read_lines-requires
-read_lines-requires c = omega (arith, c.requires, length-lines c.in_ok-lines.lines.items c.args.bytes.now c.in_ok-lines.ensures, ap length c.deref.ensures.value)
+read_lines-requires c = omega (arith, c.requires, length-lines c.in_ok-lines.lines.items c.args.bytes.now c.in_ok-lines.ensures, ap length c.as_slice-lines.ensures.value)
 
 pub returns : goal.returns
 returns c =
-    let lines = ap text_lines c.deref.ensures.value ∙ c.in_ok-lines.ensures in
-    let reading = subst (λ (n : ℕ). IfOk c.read_lines.result (λ r. IsReading (text_lines c.deref.result.now) n r)) (ap (λ (n : ℕ). n + 1) c.line_count.ensures) c.read_lines.ensures in
-    subst (λ (ls : List TextLine). IfOk c.read_lines.result (λ r. IsReading ls (line_behind c.args.bytes.now) r)) lines reading
+    let lines = ap text_lines c.as_slice-lines.ensures.value ∙ c.in_ok-lines.ensures in
+    let reading = subst (λ (n : ℕ). IfOk c.read_lines.result (λ r. IsReading (text_lines c.as_slice-lines.result.now) (text_lines c.as_slice-lines.result.now) n r)) (ap (λ (n : ℕ). n + 1) c.line_count.ensures) c.read_lines.ensures in
+    subst (λ (ls : List TextLine). IfOk c.read_lines.result (λ r. IsReading ls ls (line_behind c.args.bytes.now) r)) lines reading

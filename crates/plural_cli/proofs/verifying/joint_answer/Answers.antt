@@ -11,7 +11,7 @@ use Rattle.plural_cli.proofs.verifying.joint_answer.Goals as goal
 
 pub returns-in-Faulty-clause-answer : goal.returns-in-Faulty-clause-answer
 returns-in-Faulty-clause-answer c =
-    inl (subst (λ (ls : List TextLine). IsFaulty ls c.args.end c.in-Faulty.answer.status c.in-Faulty.answer.text.items) c.split_parts-parts.ensures.bundle (rw c.in-Faulty.is at c.in_ok-answer.ensures))
+    inl (subst (λ (ls : List TextLine). IsFaulty (text_lines c.args.lines.now) ls c.args.end c.in-Faulty.answer.status c.in-Faulty.answer.text.items) c.split_parts-parts.ensures.bundle (rw c.in-Faulty.is at c.in_ok-answer.ensures))
 
 pub returns-in-Whole-clause-answer : goal.returns-in-Whole-clause-answer
 returns-in-Whole-clause-answer c =
@@ -20,7 +20,7 @@ returns-in-Whole-clause-answer c =
     IfOk-weaker _ _ _
     (λ a p.
     inr (record {
-      whole = subst (λ (ls : List TextLine). IsBundle ls c.args.end) parts.bundle whole.bundle;
+      whole = subst (λ (ls : List TextLine). IsBundle (text_lines c.args.lines.now) ls c.args.end) parts.bundle whole.bundle;
       answer = subst (λ (b : BundleValue). IsOutputAnswer b (output_part (text_lines c.args.lines.now)) c.args.end a.status a.text.items) (whole.value ∙ ap bundle_of parts.bundle)
           (subst (λ (ls : List TextLine). IsOutputAnswer c.in-Whole.bundle ls c.args.end a.status a.text.items) parts.output p);
     }))
