@@ -1,0 +1,125 @@
+//! The rows of a text, one behind the other.
+
+use crate::input::{changed, spelled};
+use plural_bytes::{MemSink, MemSource, Memory, put, put_number};
+use plural_cli::{OpenGate, plural};
+use std::alloc::Global;
+use std::thread::Threads;
+
+/// What the rows so far came to.
+#[derive(Drop)]
+struct Tally {
+    rows: u32,
+    commands: u32,
+    /// The commands that were answered otherwise.
+    others: u32,
+    /// Those commands, each with its answer.
+    report: Vec<u8>,
+}
+
+/// What the program answers to a command over an input: its status in a line, and its text.
+fn answer<R: Threads + Sync>(
+    rt: &R,
+    alloc: Global,
+    command: &str,
+    input: &str,
+) -> Result<Vec<u8>, Memory> {
+    let mut words = Vec::new(alloc);
+    for word in command.split_whitespace() {
+        words.push(String::from_str(alloc, word)?)?;
+    }
+    let bytes = Vec::from_slice(alloc, input.as_bytes())?;
+    let mut source = MemSource::new(bytes, 1000, Vec::new(alloc));
+    let mut sink = MemSink::new(alloc, 1_000_000, 10_000, Vec::new(alloc))?;
+    let status = plural(rt, alloc, &words, &mut source, &mut sink, &OpenGate);
+    let mut answer = Vec::new(alloc);
+    put_number(&mut answer, alloc, status.into())?;
+    put(&mut answer, b"\n")?;
+    put(&mut answer, sink.bytes())?;
+    Ok(answer)
+}
+
+/// Whether an answer is the one that a row wants; the end of its last line isn't in the row's text.
+fn is_wanted(answer: &[u8], want: &str) -> bool {
+    answer.strip_suffix(b"\n") == Some(want.as_bytes())
+}
+
+/// Lets the program answer one command of a row.
+fn try_command<R: Threads + Sync>(
+    rt: &R,
+    alloc: Global,
+    tally: &mut Tally,
+    command: &str,
+    input: &str,
+    want: &str,
+) -> Result<(), Memory> {
+    let answer = answer(rt, alloc, command, input)?;
+    tally.commands = tally.commands.saturating_add(1);
+    if !is_wanted(&answer, want) {
+        tally.others = tally.others.saturating_add(1);
+        put(&mut tally.report, b"$ ")?;
+        put(&mut tally.report, command.as_bytes())?;
+        put(&mut tally.report, b"\n=> ")?;
+        put(&mut tally.report, &answer)?;
+    }
+    Ok(())
+}
+
+/// Answers the commands of one row, and gives what it spells out, or nothing where it changes what was spelled out
+/// before.
+fn try_row<R: Threads + Sync>(
+    rt: &R,
+    alloc: Global,
+    tally: &mut Tally,
+    row: &str,
+    before: &str,
+) -> Result<Option<String>, Memory> {
+    let (head, want) = row.split_once("\n=> ").unwrap_or((row, ""));
+    let change = changed(alloc, head, before)?;
+    let text = spelled(alloc, head)?;
+    let input = match &change {
+        Some(change) => change,
+        None => &text,
+    };
+    tally.rows = tally.rows.saturating_add(1);
+    for line in head.lines().skip(1) {
+        if let Some(command) = line.strip_prefix("$ ") {
+            try_command(rt, alloc, tally, command, input, want)?;
+        }
+    }
+    match change {
+        Some(_) => Ok(None),
+        None => Ok(Some(text)),
+    }
+}
+
+/// What the rows of a text come to: the commands that were answered otherwise than the rows want, each with its answer,
+/// and a line with the counts.
+pub(crate) fn report<R: Threads + Sync>(
+    rt: &R,
+    alloc: Global,
+    rows: &str,
+) -> Result<Vec<u8>, Memory> {
+    let mut tally = Tally {
+        rows: 0,
+        commands: 0,
+        others: 0,
+        report: Vec::new(alloc),
+    };
+    let mut before = String::new(alloc);
+    let rows = rows.strip_suffix("\n").unwrap_or(rows);
+    for row in rows.split("\n\n== ").skip(1) {
+        if let Some(text) = try_row(rt, alloc, &mut tally, row, &before)? {
+            before = text;
+        }
+    }
+    let mut report = tally.report;
+    put(&mut report, b"rows ")?;
+    put_number(&mut report, alloc, tally.rows)?;
+    put(&mut report, b" commands ")?;
+    put_number(&mut report, alloc, tally.commands)?;
+    put(&mut report, b" answered otherwise ")?;
+    put_number(&mut report, alloc, tally.others)?;
+    put(&mut report, b"\n")?;
+    Ok(report)
+}
