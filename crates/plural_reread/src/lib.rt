@@ -5,7 +5,7 @@
 //! of version 1 (`laws::map_fits`); so a map that `plural_map::parse` answers, printed and read again, gives itself, or
 //! memory ran out.
 //! Stands on `plural_map`, whose definitions it speaks of, and on `plural_bytes`, whose lemmas on printed lines it uses
-//! (`proofs/Tokens.antt`). No crate stands on it.
+//! (`proofs/Tokens.antt`). `plural_made` stands on it.
 #![tactic(auto)]
 
 pub mod laws;

@@ -1,0 +1,10 @@
+pub mod Renumbered
+pub mod Whole
+pub mod Drawn
+pub mod Stays
+pub mod Walked
+pub mod Spelled
+pub mod Kernels
+pub mod Mapped
+pub mod Sized
+pub mod Made

@@ -1,0 +1,5 @@
+use Rattle.plural_made.proofs.Sized.{made_code}
+use Rattle.plural_made.proofs.laws.made_code.Goals as goal
+
+pub returns : goal.returns
+returns c = made_code

@@ -1,0 +1,5 @@
+use Rattle.plural_made.proofs.Made.{made_is_read}
+use Rattle.plural_made.proofs.laws.made_is_read.Goals as goal
+
+pub returns : goal.returns
+returns c = made_is_read

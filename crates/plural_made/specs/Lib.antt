@@ -1,0 +1,10 @@
+pub use Rattle.plural_bytes.specs.Lines
+pub use Rattle.plural_asm.specs.Words
+pub use Rattle.plural_serial.specs.Program
+pub use Rattle.plural_generator.specs.Tasks
+pub use Rattle.plural_generator.specs.Kernels
+pub use Rattle.plural_generator.specs.Draws
+pub use Rattle.plural_generator.specs.Text
+pub use Rattle.plural_bundle.specs.Answer
+pub use Rattle.plural_bundle.specs.Value
+pub mod Laws
