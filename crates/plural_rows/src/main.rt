@@ -1,5 +1,5 @@
 //! Rows of the program: inputs, and what the one public call of `plural_cli` has to answer to each. They are read from
-//! standard input; what is answered otherwise is written as it was answered, and behind it how many rows there were.
+//! standard input; a row that is answered otherwise is written as it was answered, and behind all how many rows there were.
 //! This crate's `stdin` holds the rows, and its `stdout` what has to be written of them.
 //!
 //! ```text
@@ -13,14 +13,14 @@
 //! ```
 //!
 //! What stands in front of the first row is a comment. Inputs whose bytes such lines can't show, and reads and writes
-//! that fail, have their tests in `plural_cli_tests`.
+//! that fail, have their tests in `plural_tests`.
 #![tactic(auto)]
 
 mod input;
 mod rows;
 
 use crate::rows::report;
-use plural_bytes::{Memory, StdSink, StdSource, read_all, write_all};
+use plural_bytes::{StdSink, StdSource, read_all, write_all};
 use std::process::ExitCode;
 
 /// The most bytes that the rows may have.

@@ -44,11 +44,12 @@ fn is_wanted(answer: &[u8], want: &str) -> bool {
     answer.strip_suffix(b"\n") == Some(want.as_bytes())
 }
 
-/// Lets the program answer one command of a row.
+/// Lets the program answer one command of the row with this title.
 fn try_command<R: Threads + Sync>(
     rt: &R,
     alloc: Global,
     tally: &mut Tally,
+    title: &str,
     command: &str,
     input: &str,
     want: &str,
@@ -57,7 +58,9 @@ fn try_command<R: Threads + Sync>(
     tally.commands = tally.commands.saturating_add(1);
     if !is_wanted(&answer, want) {
         tally.others = tally.others.saturating_add(1);
-        put(&mut tally.report, b"$ ")?;
+        put(&mut tally.report, b"== ")?;
+        put(&mut tally.report, title.as_bytes())?;
+        put(&mut tally.report, b"\n$ ")?;
         put(&mut tally.report, command.as_bytes())?;
         put(&mut tally.report, b"\n=> ")?;
         put(&mut tally.report, &answer)?;
@@ -82,9 +85,10 @@ fn try_row<R: Threads + Sync>(
         None => &text,
     };
     tally.rows = tally.rows.saturating_add(1);
+    let title = head.lines().next().unwrap_or("");
     for line in head.lines().skip(1) {
         if let Some(command) = line.strip_prefix("$ ") {
-            try_command(rt, alloc, tally, command, input, want)?;
+            try_command(rt, alloc, tally, title, command, input, want)?;
         }
     }
     match change {
