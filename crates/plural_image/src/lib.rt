@@ -4,8 +4,8 @@
 //! (`specs/Image.antt`); printing gives the canonical lines (`specs/Print.antt`), which, read again,
 //! have no fault and spell the image (`laws::image_again`).
 //!
-//! Stands on `plural_bytes`. `plural_trace`, `plural_bundle` and `plural_cli` read and print images
-//! by it, and single words of eight hexadecimal digits.
+//! Stands on `plural_bytes`. `plural_bundle`, `plural_output` and `plural_cli` read and print images
+//! by it, and `plural_log` single words of eight hexadecimal digits.
 #![tactic(auto)]
 
 mod fault;

@@ -3,6 +3,7 @@ use Rattle.std.proofs.Common.{◌≡◌, ℕ, true, false, List, [], ◌++◌, r
 use Rattle.std.specs.Prelude.{codes, Result, Ok, Err, MatchResult, IsErrAnd}
 use Rattle.plural_bytes.specs.Lines.{TextLine}
 use Rattle.plural_bytes.specs.Faults.{IsFaultless, IsFirstFault}
+use Rattle.plural_bytes.proofs.Faulted.{last_none, last_first}
 use Rattle.plural_map.specs.Rules.{closed}
 use Rattle.plural_map.specs.Value.{TaskValue}
 use Rattle.plural_image.specs.Image as image
@@ -10,12 +11,12 @@ use Rattle.plural_image.specs.Image.{image_of}
 use Rattle.plural_image.specs.Answer as image_answer
 use Rattle.plural_image.specs.declared.fault.ImageError.{ImageError}
 use Rattle.plural_image.specs.declared.fault.ImageError.TheVariants as image_error
-use Rattle.plural_trace.specs.Faults as log
-use Rattle.plural_trace.specs.Logs.{LogValue}
-use Rattle.plural_trace.specs.Spelled.{log_of}
-use Rattle.plural_trace.specs.declared.fault.LogKind.{LogKind}
-use Rattle.plural_trace.specs.declared.fault.LogError.{LogError}
-use Rattle.plural_trace.specs.declared.fault.LogError.TheVariants as of_log
+use Rattle.plural_log.specs.Faults as log
+use Rattle.plural_log.specs.Logs.{LogValue}
+use Rattle.plural_log.specs.Spelled.{log_of}
+use Rattle.plural_log.specs.declared.fault.LogKind.{LogKind}
+use Rattle.plural_log.specs.declared.fault.LogError.{LogError}
+use Rattle.plural_log.specs.declared.fault.LogError.TheVariants as of_log
 use Rattle.plural_bundle.specs.declared.fault.Fault.TheVariants as fault
 use Rattle.plural_bundle.specs.declared.fault.BundleError.{BundleError}
 use Rattle.plural_bundle.specs.declared.fault.BundleError.TheVariants.{At}
@@ -32,7 +33,7 @@ use Rattle.plural_output.specs.Rules.{SectionBreaks}
 use Rattle.plural_output.specs.Value.{OutputValue, log_lines, image_lines, output_of}
 use Rattle.plural_output.specs.Answer.{IsOutput, Faults}
 use Rattle.plural_output.proofs.Staged.{Stage, stage_first, stage_next, rule, form_first, section_closed, section_faultless, section_first, section_missing}
-use Rattle.plural_output.proofs.Sectioned.{log_section, image_section, log_rank, closing_form, closed_none, closed_first}
+use Rattle.plural_output.proofs.Sectioned.{log_section, image_section, log_rank, closing_form}
 use Rattle.plural_output.proofs.Past.{past_none, past_first}
 use Rattle.plural_output.proofs.Named.{image_is}
 
@@ -71,7 +72,7 @@ module _ (tasks : List TaskValue) (words : ℕ) (all logs back : List TextLine) 
 
   pub image_missing : (end number : ℕ) (e : BundleError) → IsFaultless (log.Breaks tasks) (closed logs number) → IsMissing (codes "[image]") back end e → Faults tasks words all end e
   image_missing end number e good m =
-      section_missing tasks words all all 0 (codes "[image]") (log.Breaks tasks) log_fault (stage_first tasks words all) (log_section tasks words) logs back end e log_none a.whole (closed_none tasks logs number good).0 a.shut m
+      section_missing tasks words all all 0 (codes "[image]") (log.Breaks tasks) log_fault (stage_first tasks words all) (log_section tasks words) logs back end e log_none a.whole (last_none (log.Breaks tasks) logs (number, []) good).0 a.shut m
 
   -- the log's first fault, where it is that of the line that closes its section
   log_closing : (end : ℕ) (k : LogKind) → IsFaultless (log.Breaks tasks) logs → log.Breaks tasks logs [] k → Faults tasks words all end (At (head_of back end).0 (log_fault k))
@@ -86,7 +87,7 @@ module _ (tasks : List TaskValue) (words : ℕ) (all logs back : List TextLine) 
       (subst (λ X. X) (sym (rule tasks words all all 0 (stage_first tasks words all) logs log_none (head_of back end).1 fault.Form)) here) refl)
 
   log_first : (end number line : ℕ) (k : LogKind) → number ≡ (head_of back end).0 → IsFirstFault log.rank (log.Breaks tasks) (closed logs number) line k → Faults tasks words all end (At line (log_fault k))
-  log_first end number line k n f = elim (closed_first tasks logs number line k f) [
+  log_first end number line k n f = elim (last_first log.rank (log.Breaks tasks) logs (number, []) line k f) [
     | inl first ↦ section_first tasks words all all 0 (codes "[image]") (log.Breaks tasks) log_fault (stage_first tasks words all) (log_section tasks words) log.rank logs back end line k log_rank log_none a.whole first
     | inr last ↦ subst (λ x. Faults tasks words all end (At x (log_fault k))) (sym (last.1 ∙ n)) (log_closing end k last.0 last.2)
   ]
@@ -104,7 +105,7 @@ module _ (tasks : List TaskValue) (words : ℕ) (all logs back more lines last :
 
   pub image_stage : Stage tasks words all 1 more
   image_stage =
-      let good = closed_none tasks logs number a.good in
+      let good = last_none (log.Breaks tasks) logs (number, []) a.good in
       stage_next tasks words all all 0 (codes "[image]") (log.Breaks tasks) log_fault (stage_first tasks words all) (log_section tasks words) logs back more (log_none tasks words all logs back a.at_log) a.at_log.whole
       good.0 refl a.header (λ k o. elim o [ inl x ↦ absurd (let f : true ≡ false = x.1 in cc) | inr x ↦ good.1 x.0 x.2 ])
 

@@ -3,10 +3,10 @@ use Rattle.plural_bundle.specs.declared.fault.Fault.{Fault}
 use Rattle.plural_bundle.specs.declared.fault.Fault.TheVariants as fault
 use Rattle.plural_bundle.specs.declared.fault.BundleError.{BundleError}
 use Rattle.plural_bundle.specs.declared.fault.BundleError.TheVariants as error
-use Rattle.plural_trace.specs.declared.fault.LogKind.{LogKind}
-use Rattle.plural_trace.specs.declared.fault.LogKind.TheVariants as log_kind
-use Rattle.plural_trace.specs.declared.fault.LogError.{LogError}
-use Rattle.plural_trace.specs.declared.fault.LogError.TheVariants as of_log
+use Rattle.plural_log.specs.declared.fault.LogKind.{LogKind}
+use Rattle.plural_log.specs.declared.fault.LogKind.TheVariants as log_kind
+use Rattle.plural_log.specs.declared.fault.LogError.{LogError}
+use Rattle.plural_log.specs.declared.fault.LogError.TheVariants as of_log
 
 -- The fault of a log line.
 abbrev pub log_fault : LogKind → Fault

@@ -5,7 +5,7 @@ use Rattle.plural_map.specs.Value.{TaskValue}
 use Rattle.plural_bundle.specs.declared.fault.Fault.{Fault}
 use Rattle.plural_bundle.specs.Sections.{closes, closings, since}
 use Rattle.plural_bundle.specs.Rules.{IsNot, Renamed, InSection, ImageBreaks, PastBreaks}
-use Rattle.plural_trace.specs.Faults as log
+use Rattle.plural_log.specs.Faults as log
 use Rattle.plural_output.specs.Kinds.{log_fault}
 
 -- A line of the log's section: a log line, or the header of the image, before which the log has to be whole.

@@ -3,7 +3,7 @@ ghost use Rattle.std.specs.Prelude.{◌≡◌};
 ghost use Rattle.plural_output.specs.Kinds.{log_fault, log_error};
 
 use plural_bundle::{BundleError, Fault};
-use plural_trace::{LogError, LogKind};
+use plural_log::{LogError, LogKind};
 
 fn log_fault(kind: LogKind) -> Fault
     ensures { result ≡ log_fault kind }

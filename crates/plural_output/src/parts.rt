@@ -5,8 +5,7 @@ ghost use Rattle.std.specs.List.{position_or_len, after_first};
 ghost use Rattle.plural_bytes.specs.Spelled.{text_lines};
 ghost use Rattle.plural_output.specs.Parts.{bundle_part, output_part};
 
-use crate::border::is_header;
-use plural_bytes::Line;
+use plural_bytes::{Line, is_word};
 
 /// The content lines of a bundle, up to its `[end]`, and those of the output of a run behind it.
 #[derive(Clone, Copy)]
@@ -18,7 +17,7 @@ pub struct Parts<'a, 'b> {
 fn find_end(lines: &[Line<'_>]) -> Option<usize>
     ensures { result ≡ position (λ l. bytes_eq l.text.now (codes "[end]")) lines.now }
 {
-    lines.iter().position(|l| is_header(l.text, b"[end]"))
+    lines.iter().position(|l| is_word(l.text, b"[end]"))
 }
 
 /// How many lines stand up to the first that is the end of a bundle, with it; all where none is.

@@ -1,21 +1,14 @@
 //! The text of an output.
-ghost use Rattle.std.specs.Prelude.{◌≡◌, ◌<◌, ◌≤◌, ◌%◌, ◌++◌, length, OnOk, IfOk};
+ghost use Rattle.std.specs.Prelude.{◌≡◌, ◌<◌, ◌≤◌, ◌%◌, length, IfOk};
 ghost use Rattle.std.specs.List.{All};
-ghost use Rattle.plural_trace.specs.declared.entry.Entry.{Entry};
+ghost use Rattle.plural_log.specs.declared.entry.Entry.{Entry};
 ghost use Rattle.plural_output.specs.Text.{output_text};
 
-use plural_bytes::Memory;
+use plural_bytes::{Memory, put};
 use plural_image::print_image;
+use plural_log::{Log, print_log};
 use plural_map::Map;
-use plural_trace::{Log, print_log};
 use std::alloc::Global;
-
-fn put(out: &mut Vec<u8>, text: &[u8]) -> Result<(), Memory>
-    ensures { OnOk result (out.new.items ≡ out.old.items ++ text.now) }
-{
-    out.extend_from_slice(text)?;
-    Ok(())
-}
 
 /// The output of a run of the map: its log, which has one outcome for each task and whose entries are of its tasks, and
 /// the memory's words behind it.

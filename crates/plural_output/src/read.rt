@@ -3,19 +3,19 @@
 ghost use Rattle.std.specs.Prelude.{◌≡◌, ◌<◌, ◌≤◌, length, MatchResult, IfOk};
 ghost use Rattle.std.specs.List.{All};
 ghost use Rattle.plural_bytes.specs.Spelled.{text_lines};
-ghost use Rattle.plural_trace.specs.declared.entry.Entry.{Entry};
+ghost use Rattle.plural_log.specs.declared.entry.Entry.{Entry};
 ghost use Rattle.plural_output.specs.Value.{output_of};
 ghost use Rattle.plural_output.specs.Answer.{IsOutput, Faults};
 
-use crate::border::{behind, first_number, nothing_behind};
 use crate::fault::log_error;
 use crate::output::Output;
-use crate::section::next_section;
 use plural_bundle::BundleError;
+use plural_bundle::border::{behind, first_number, nothing_behind};
+use plural_bundle::section::next_section;
 use plural_bytes::Line;
 use plural_image::read_image;
+use plural_log::read_log;
 use plural_map::Map;
-use plural_trace::read_log;
 use std::alloc::Global;
 
 /// The log and the memory that the content lines of an output of a run of the map spell, or their first fault. `end` is

@@ -3,10 +3,10 @@ use crate::programs::map_of;
 use plural_bundle::{BundleError, Fault};
 use plural_bytes::{Line, line_count, split};
 use plural_core::End;
+use plural_log::{Entry, Log};
 use plural_map::{Map, Outcome};
 use plural_output::*;
 use plural_serial::Record;
-use plural_trace::{Entry, Log};
 use std::alloc::Global;
 use std::test::*;
 

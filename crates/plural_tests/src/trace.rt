@@ -1,7 +1,7 @@
 //! Logs of serial runs: their text, read and printed, and that they are legal.
 ghost use Rattle.std.specs.Prelude.{◌≡◌, ◌<◌, ◌≤◌, IfOk, length};
 ghost use Rattle.std.specs.List.{All};
-ghost use Rattle.plural_trace.specs.declared.entry.Entry.{Entry};
+ghost use Rattle.plural_log.specs.declared.entry.Entry.{Entry};
 
 use crate::programs::program_of;
 use plural_bytes::split;

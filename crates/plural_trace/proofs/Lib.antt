@@ -1,6 +1,3 @@
-pub mod Printed
-pub mod Numbered
-pub mod Reading
 pub mod Places
 pub mod Latest
 pub mod Swept
@@ -9,9 +6,6 @@ pub mod Standing
 pub mod Judged
 pub mod SerialEntries
 pub mod Fits
-pub mod Tokens
-pub mod Words
-pub mod Again
 pub mod Ordered
 pub mod Sequenced
 pub mod Stretches

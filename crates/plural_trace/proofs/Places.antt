@@ -1,22 +1,23 @@
 -- Looking for the least place by going up.
 use Rattle.std.proofs.Common.{◌≡◌, ℕ, zero, suc, ◌+◌, ◌-◌, ◌*◌, ◌<◌, ◌≤◌, Bool, true, false, not, ◌||◌, eqb, ltb, cond, List, [], ◌∷◌, length, take, set, get_or, Option, Some, None, refl, sym, ap, ◌∙◌, arith, eqb-true}
 use Rattle.std.specs.List.{All}
+use Rattle.std.specs.Option.{option_or}
 use Rattle.std.proofs.lemmas.Bool.{cases_Bool}
 use Rattle.std.proofs.lemmas.List.{length-set, get_or_default}
 use Rattle.std.proofs.lemmas.Bool.Decides.{nat_tests}
 use Rattle.std.proofs.Common.{⊎_elim}
-use Rattle.plural_trace.specs.Least.{least, or_else}
+use Rattle.plural_trace.specs.Least.{least}
 use Rattle.plural_trace.specs.Rules.{no_entry, entry_at, is_drawn, breaks_tickets}
-use Rattle.plural_trace.specs.declared.entry.Entry.{Entry}
+use Rattle.plural_log.specs.declared.entry.Entry.{Entry}
 
 pub least_next : (p : ℕ → Bool) (i : ℕ) → least p i ≡ None → p i ≡ false → least p (i + 1) ≡ None
 least_next p i e f =
     ap (least p) (let s : i + 1 ≡ suc i = omega arith in s)
-    ∙ ap (λ (o : Option ℕ). or_else o (cond (p i) (Some i) None)) e ∙ ap (λ b. cond b (Some i) None) f
+    ∙ ap (λ (o : Option ℕ). option_or o (cond (p i) (Some i) None)) e ∙ ap (λ b. cond b (Some i) None) f
 
 at_least : (p : ℕ → Bool) (i d : ℕ) → least p i ≡ None → p i ≡ true → least p (suc i + d) ≡ Some i
-at_least p i zero e t = ap (least p) (let s : suc i + 0 ≡ suc i = omega arith in s) ∙ ap (λ (o : Option ℕ). or_else o (cond (p i) (Some i) None)) e ∙ ap (λ b. cond b (Some i) None) t
-at_least p i (suc d) e t = ap (least p) (let s : suc i + suc d ≡ suc (suc i + d) = omega arith in s) ∙ ap (λ (o : Option ℕ). or_else o (cond (p (suc i + d)) (Some (suc i + d)) None)) (at_least p i d e t)
+at_least p i zero e t = ap (least p) (let s : suc i + 0 ≡ suc i = omega arith in s) ∙ ap (λ (o : Option ℕ). option_or o (cond (p i) (Some i) None)) e ∙ ap (λ b. cond b (Some i) None) t
+at_least p i (suc d) e t = ap (least p) (let s : suc i + suc d ≡ suc (suc i + d) = omega arith in s) ∙ ap (λ (o : Option ℕ). option_or o (cond (p (suc i + d)) (Some (suc i + d)) None)) (at_least p i d e t)
 
 pub least_found : (p : ℕ → Bool) (i n : ℕ) → i < n → least p i ≡ None → p i ≡ true → Some i ≡ least p n
 least_found p i n lt e t = sym (at_least p i (n - suc i) e t) ∙ ap (least p) (let s : suc i + (n - suc i) ≡ n = omega arith in s)
@@ -24,7 +25,7 @@ least_found p i n lt e t = sym (at_least p i (n - suc i) e t) ∙ ap (least p) (
 -- a test that holds nowhere
 pub none_at_all : (p : ℕ → Bool) (n : ℕ) → ((i : ℕ) → i < n → p i ≡ false) → least p n ≡ None
 none_at_all p zero h = refl
-none_at_all p (suc n) h = ap (λ (o : Option ℕ). or_else o (cond (p n) (Some n) None)) (none_at_all p n (λ i l. h i (omega arith))) ∙ ap (λ b. cond b (Some n) None) (h n (omega arith))
+none_at_all p (suc n) h = ap (λ (o : Option ℕ). option_or o (cond (p n) (Some n) None)) (none_at_all p n (λ i l. h i (omega arith))) ∙ ap (λ b. cond b (Some n) None) (h n (omega arith))
 
 -- one more entry
 pub is_drawn-next : (x i : ℕ) (es : List Entry) → i < length es → is_drawn x (take (i + 1) es) ≡ (is_drawn x (take i es) || (eqb (entry_at es i).start x || eqb (entry_at es i).end_at x))
@@ -108,12 +109,12 @@ marks_next es marks i x room lt fine below h =
 pub least_same : (p q : ℕ → Bool) (n : ℕ) → ((i : ℕ) → i < n → p i ≡ q i) → least p n ≡ least q n
 least_same p q zero h = refl
 least_same p q (suc n) h =
-    ap (λ (o : Option ℕ). or_else o (cond (p n) (Some n) None)) (least_same p q n (λ i lt. h i (omega arith)))
-    ∙ ap (λ b. or_else (least q n) (cond b (Some n) None)) (h n (omega arith))
+    ap (λ (o : Option ℕ). option_or o (cond (p n) (Some n) None)) (least_same p q n (λ i lt. h i (omega arith)))
+    ∙ ap (λ b. option_or (least q n) (cond b (Some n) None)) (h n (omega arith))
 
 least_more : (p : ℕ → Bool) (i m d : ℕ) → least p m ≡ Some i → least p (m + d) ≡ Some i
 least_more p i m zero e = ap (least p) (let s : m + 0 ≡ m = omega arith in s) ∙ e
-least_more p i m (suc d) e = ap (least p) (let s : m + suc d ≡ suc (m + d) = omega arith in s) ∙ ap (λ (o : Option ℕ). or_else o (cond (p (m + d)) (Some (m + d)) None)) (least_more p i m d e)
+least_more p i m (suc d) e = ap (least p) (let s : m + suc d ≡ suc (m + d) = omega arith in s) ∙ ap (λ (o : Option ℕ). option_or o (cond (p (m + d)) (Some (m + d)) None)) (least_more p i m d e)
 
 pub least_stays : (p : ℕ → Bool) (i m n : ℕ) → m ≤ n → Some i ≡ least p m → Some i ≡ least p n
 least_stays p i m n le e = sym (least_more p i m (n - m) (sym e)) ∙ ap (least p) (let s : m + (n - m) ≡ n = omega arith in s)
@@ -124,7 +125,7 @@ least_none p i n lt e = ⊎_elim (λ t. absurd (clash p i n lt t e)) (λ f. f) (
     first : (p : ℕ → Bool) (n : ℕ) → least p (suc n) ≡ None → (least p n ≡ None) × (p n ≡ false)
     first p n e = parts (least p n) (p n) n e
       where
-        parts : (o : Option ℕ) (b : Bool) (n : ℕ) → or_else o (cond b (Some n) None) ≡ None → (o ≡ None) × (b ≡ false)
+        parts : (o : Option ℕ) (b : Bool) (n : ℕ) → option_or o (cond b (Some n) None) ≡ None → (o ≡ None) × (b ≡ false)
         parts (Some i) b n h = absurd (cc h)
         parts None true n h = absurd (cc h)
         parts None false n h = (refl, refl)

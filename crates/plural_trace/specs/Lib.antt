@@ -5,13 +5,7 @@ pub use Rattle.plural_serial.specs.Program
 pub use Rattle.plural_serial.specs.Serial
 pub use Rattle.plural_reach.specs.Tables
 pub use Rattle.plural_reach.specs.Chains
-pub mod Logs
-pub mod Print
-pub mod Words
-pub mod Shape
-pub mod Spelled
-pub mod Numbers
-pub mod Faults
+pub use Rattle.plural_log.specs.Logs
 pub mod Least
 pub mod Rules
 pub mod Verdicts

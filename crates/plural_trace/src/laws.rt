@@ -1,11 +1,6 @@
 //! Laws over the definitions.
 
-ghost use Rattle.plural_trace.specs.Laws.{LogAgain, SerialFits, SerialIsLegal};
-
-/// The lines of a printed log are read as that log.
-pub fn log_again()
-    ensures { LogAgain }
-{}
+ghost use Rattle.plural_trace.specs.Laws.{SerialFits, SerialIsLegal};
 
 /// What a serial run leaves fits a log of its map.
 pub fn serial_fits()

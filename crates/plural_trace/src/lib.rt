@@ -1,38 +1,25 @@
-//! Logs of runs: their text, and the verdict whether a log is legal.
+//! The verdict whether a log is legal, and the log of a serial run.
 //!
-//! Promise: reading gives the log that the lines spell, or exactly their first fault (`specs/Faults.antt`,
-//! `specs/Spelled.antt`); printing gives the canonical lines (`specs/Print.antt`), which, read again, have no fault and
-//! spell the log (`laws::log_again`); the verdict on a log is the first of the seven rules that fails, at its least place
-//! (`specs/Rules.antt`, `specs/Verdicts.antt`). The log of a serial run is legal (`laws::serial_is_legal`).
+//! Promise: the verdict on a log is the first of the seven rules that fails, at its least place (`specs/Rules.antt`,
+//! `specs/Verdicts.antt`); the log of a serial run is that of its records (`specs/SerialLog.antt`), fits its map
+//! (`laws::serial_fits`) and is legal with its last memory (`laws::serial_is_legal`).
 //!
-//! Stands on `plural_serial`, whose run a log is compared with, on `plural_map`, `plural_reach` and `plural_image`.
+//! Stands on `plural_log`, whose logs it judges, on `plural_serial`, whose run a log is compared with, and on
+//! `plural_reach`, which tells what comes before what. `plural_cli` writes serial logs and verifies outputs by it.
 #![tactic(auto)]
 
 mod compare;
 mod cores;
-mod entry;
-mod fault;
-mod judge_line;
 mod judging;
 pub mod laws;
-mod line;
-mod log;
-mod numbers;
 mod order;
-mod printing;
-mod read;
 mod records;
 mod rise;
 mod serial_run;
-mod shape;
 mod tickets;
 mod verdict;
 
-pub use entry::Entry;
-pub use fault::{LogError, LogKind};
 pub use judging::legal;
-pub use log::Log;
-pub use printing::print_log;
-pub use read::read_log;
+pub use plural_log::{Entry, Log, LogError, LogKind, print_log, read_log};
 pub use serial_run::serial_log;
 pub use verdict::Verdict;

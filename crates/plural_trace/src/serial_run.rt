@@ -2,9 +2,8 @@
 ghost use Rattle.std.specs.Prelude.{◌≡◌, ◌<◌, ◌≤◌, ◌*◌, ◌+◌, ◌^◌, length, IfOk};
 ghost use Rattle.plural_trace.specs.SerialLog.{serial_entry, serial_entries, serial_log};
 
-use crate::entry::Entry;
-use crate::log::Log;
 use plural_bytes::Memory;
+use plural_log::{Entry, Log};
 use plural_serial::{Answer, Record};
 use std::alloc::Global;
 

@@ -1,0 +1,5 @@
+pub mod Numbered
+pub mod Words
+pub mod Printed
+pub mod Reading
+pub mod Again

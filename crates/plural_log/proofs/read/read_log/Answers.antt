@@ -1,0 +1,19 @@
+use Rattle.plural_log.proofs.Reading.{reads_nothing, reads_more, reads_all, line_first, closed_faultless}
+use Rattle.plural_log.proofs.read.read_log.Goals as goal
+
+pub returns-in-Err-clause-answer : goal.returns-in-Err-clause-answer
+returns-in-Err-clause-answer c =
+    line_first c.args.map.now.tasks c.args.lines.now c.args.end c.loop-n.n _ _ _ c.loop-n-test.true c.loop-n.invariant (rw c.tasks-tasks.ensures.value at c.in-Err.ensures.fault)
+
+pub loop-n-preserved : goal.loop-n-preserved
+loop-n-preserved c =
+    reads_more c.args.map.now.tasks c.args.lines.now c.loop-n.n _ _ _ c.in-Ok.found.line c.loop-n-test.true c.loop-n.invariant c.in-Ok.ensures.shape (rw c.tasks-tasks.ensures.value at c.in-Ok.ensures.fine)
+    (c.in_ok-add-in-Ok.ensures.ok c.args.map.now.tasks (rw c.tasks-tasks.ensures.value at c.in-Ok.ensures.task))
+
+pub returns-clause-answer : goal.returns-clause-answer
+returns-clause-answer c =
+    let all = reads_all c.args.map.now.tasks c.args.lines.now c.loop-n.n c.loop-n.log c.loop-n-test.false c.loop-n.invariant in
+    (closed_faultless c.args.map.now.tasks c.args.lines.now c.args.end c.loop-n.log all (rw c.tasks-tasks.ensures.value at c.if-lines-tasks.false), all.value)
+
+pub loop-n-init : goal.loop-n-init
+loop-n-init c = rw (c.of-log.ensures, c.new.ensures.items, c.new-2.ensures.items) (reads_nothing c.args.map.now.tasks)

@@ -1,0 +1,13 @@
+pub use Rattle.plural_bytes.specs.Lines
+pub use Rattle.plural_bytes.specs.Spelled as LinesSpelled
+pub use Rattle.plural_bytes.specs.Faults as LinesFaults
+pub use Rattle.plural_map.specs.Value
+pub use Rattle.plural_map.specs.Rules as MapRules
+pub mod Logs
+pub mod Print
+pub mod Words
+pub mod Shape
+pub mod Spelled
+pub mod Numbers
+pub mod Faults
+pub mod Laws

@@ -1,0 +1,155 @@
+//! Whether a log line fits behind the lines before it.
+ghost use Rattle.std.specs.Prelude.{◌≡◌, ◌<◌, ◌≤◌, ℕ, List, length, false, IfErr, IfOk, Some, None};
+ghost use Rattle.std.specs.BTreeMap.{get_by};
+ghost use Rattle.std.specs.Cmp.Lexicographic.{slice_cmp};
+ghost use Rattle.std.specs.Ordering.{nat_cmp};
+ghost use Rattle.plural_log.specs.declared.fault.LogKind.TheVariants.{Form};
+ghost use Rattle.plural_log.specs.Numbers.{number_for, task_of};
+ghost use Rattle.plural_log.specs.Shape.{shape_of};
+ghost use Rattle.plural_log.specs.Faults.{is_out_of_place, is_no_end, lacks_count, lacks_time, is_out_of_range, is_misnamed, is_too_many, least_kind, IsLineFault};
+
+use crate::fault::LogKind;
+use crate::line::{Counts, EndShape, LogLine, Times};
+use crate::log::Log;
+use crate::numbers::number_of;
+use crate::shape::shape_of;
+use plural_bytes::Name;
+use plural_map::{Task, is_between};
+use std::collections::BTreeMap;
+
+fn is_out_of_place(tasks: usize, n: usize, line: &LogLine) -> bool
+    ensures { result ≡ is_out_of_place tasks n line.now }
+{
+    match line {
+        LogLine::First { .. } => n != 0,
+        LogLine::Task { .. } => !(1 <= n && n <= tasks),
+        LogLine::Run { .. } | LogLine::End => n <= tasks,
+    }
+}
+
+fn is_no_end(end: EndShape) -> bool
+    ensures { result ≡ is_no_end end }
+{
+    match end {
+        EndShape::Trap { cause, .. } => !is_between(1, 9, cause),
+        EndShape::Code0 | EndShape::Code1 | EndShape::Spent => false,
+    }
+}
+
+fn lacks_count(counts: Counts) -> bool
+    ensures { result ≡ lacks_count counts }
+{
+    counts.instructions.is_none()
+        || counts.loads.is_none()
+        || counts.misses.is_none()
+        || counts.stores.is_none()
+}
+
+fn lacks_time(times: Times) -> bool
+    ensures { result ≡ lacks_time times }
+{
+    times.core.is_none() || times.start.is_none() || times.end_at.is_none()
+}
+
+fn is_out_of_range(line: &LogLine) -> bool
+    ensures { result ≡ is_out_of_range line.now }
+{
+    match *line {
+        LogLine::First { cores } => !is_between(1, 64, cores),
+        LogLine::Run {
+            k,
+            end,
+            counts,
+            times,
+            ..
+        } => k.is_none() || is_no_end(end) || lacks_count(counts) || lacks_time(times),
+        LogLine::Task { .. } | LogLine::End => false,
+    }
+}
+
+/// The number of the task that a line names, where it is an entry's; the number of tasks where none has the name, and for
+/// other lines.
+fn task_of(tasks: &[Task], numbers: &BTreeMap<Name, u32>, line: &LogLine) -> u32
+    requires few { length tasks.now ≤ 256 }
+    requires numbers { (q : List ℕ) → get_by (λ k. slice_cmp nat_cmp q k) numbers.now ≡ number_for tasks.now q }
+    ensures { result ≡ task_of tasks.now line.now }
+{
+    match line {
+        LogLine::Run { name, .. } => number_of(tasks, numbers, name),
+        LogLine::First { .. } | LogLine::Task { .. } | LogLine::End => tasks.len() as u32,
+    }
+}
+
+fn is_misnamed(tasks: &[Task], task: u32, n: usize, line: &LogLine) -> bool
+    requires task { task ≡ task_of tasks.now line.now }
+    requires place { is_out_of_place (length tasks.now) n line.now ≡ false }
+    ensures { result ≡ is_misnamed tasks.now n line.now }
+{
+    match line {
+        LogLine::Task { name, .. } => tasks[n - 1].name() != name,
+        LogLine::Run { .. } => task as usize == tasks.len(),
+        LogLine::First { .. } | LogLine::End => false,
+    }
+}
+
+fn is_too_many(log: &Log, line: &LogLine) -> bool
+    ensures { result ≡ is_too_many log.now line.now }
+{
+    match line {
+        LogLine::Run { .. } => log.entries().len() >= 65_536,
+        LogLine::First { .. } | LogLine::Task { .. } | LogLine::End => false,
+    }
+}
+
+/// The fault of a line of a shape behind `n` lines that spell the log, if it has one, by the number of the task that it
+/// names.
+fn least_kind(tasks: &[Task], task: u32, n: usize, log: &Log, line: &LogLine) -> Option<LogKind>
+    requires { task ≡ task_of tasks.now line.now }
+    ensures { result ≡ least_kind tasks.now n log.now line.now }
+{
+    if is_out_of_place(tasks.len(), n, line) {
+        return Some(LogKind::Form);
+    }
+    if is_out_of_range(line) {
+        return Some(LogKind::Number);
+    }
+    if is_misnamed(tasks, task, n, line) {
+        return Some(LogKind::Name);
+    }
+    if is_too_many(log, line) {
+        return Some(LogKind::Count);
+    }
+    None
+}
+
+/// A log line without a fault, and the number of the task that it names, where it is an entry's.
+#[derive(Clone, Copy)]
+pub(crate) struct FaultlessLine {
+    pub line: LogLine,
+    pub task: u32,
+}
+
+/// The shape of a line behind `n` lines that spell the log, or its fault.
+pub(crate) fn checked(
+    tasks: &[Task],
+    numbers: &BTreeMap<Name, u32>,
+    n: usize,
+    log: &Log,
+    text: &[u8],
+) -> Result<FaultlessLine, LogKind>
+    requires few { length tasks.now ≤ 256 }
+    requires numbers { (q : List ℕ) → get_by (λ k. slice_cmp nat_cmp q k) numbers.now ≡ number_for tasks.now q }
+    ensures shape { IfOk result (λ s. Some s.line ≡ shape_of text.now) }
+    ensures fine { IfOk result (λ s. least_kind tasks.now n log.now s.line ≡ None) }
+    ensures task { IfOk result (λ s. s.task ≡ task_of tasks.now s.line) }
+    ensures fault { IfErr result (λ kind. IsLineFault tasks.now n log.now text.now kind) }
+{
+    let Some(line) = shape_of(text) else {
+        return Err(LogKind::Form);
+    };
+    let task = task_of(tasks, numbers, &line);
+    match least_kind(tasks, task, n, log, &line) {
+        Some(kind) => Err(kind),
+        None => Ok(FaultlessLine { line, task }),
+    }
+}

@@ -1,0 +1,113 @@
+//! Reading log lines.
+ghost use Rattle.std.specs.Prelude.{◌≡◌, ◌≤◌, ◌<◌, ℕ, List, length, false, OnOk, IfOk, IfErr, MatchResult};
+ghost use Rattle.std.specs.List.{All};
+ghost use Rattle.plural_bytes.specs.Faults.{IsFaultless};
+ghost use Rattle.plural_bytes.specs.Spelled.{text_lines};
+ghost use Rattle.plural_map.specs.Parts.{number_of};
+ghost use Rattle.plural_map.specs.Rules.{closed};
+ghost use Rattle.plural_map.specs.Value.{TaskValue};
+ghost use Rattle.plural_log.specs.declared.entry.Entry.{Entry};
+ghost use Rattle.plural_log.specs.declared.fault.LogError.TheVariants.{Memory};
+ghost use Rattle.plural_log.specs.Numbers.{task_of};
+ghost use Rattle.plural_log.specs.Spelled.{end_value, entry_value, with_line, log_of};
+ghost use Rattle.plural_log.specs.Faults.{is_no_end, is_out_of_range, Breaks, Faults};
+
+use crate::entry::Entry;
+use crate::fault::{LogError, LogKind};
+use crate::judge_line::checked;
+use crate::line::{Counts, EndShape, LogLine, Times};
+use crate::log::Log;
+use crate::numbers::numbers;
+use plural_bytes::Line;
+use plural_core::End;
+use plural_map::Map;
+use plural_serial::Record;
+use std::alloc::Global;
+
+fn end_value(end: EndShape) -> End
+    requires { is_no_end end ≡ false }
+    ensures { result ≡ end_value end }
+{
+    match end {
+        EndShape::Code0 => End::Code0,
+        EndShape::Code1 => End::Code1,
+        EndShape::Trap { cause, pc } => End::Trap {
+            cause: cause.unwrap_or(0) as u8,
+            pc,
+        },
+        EndShape::Spent => End::Exhausted,
+    }
+}
+
+/// The entry of a line that names the task of this number.
+fn entry_value(task: u32, k: Option<u32>, end: EndShape, counts: Counts, times: Times) -> Entry
+    requires end { is_no_end end ≡ false }
+    ensures { (tasks : List TaskValue) (name : List ℕ) → task ≡ number_of name tasks → result ≡ entry_value tasks name k end counts times }
+{
+    let rec = Record {
+        t: task,
+        k: k.unwrap_or(0),
+        end: end_value(end),
+        instructions: counts.instructions.unwrap_or(0),
+        loads: counts.loads.unwrap_or(0),
+        misses: counts.misses.unwrap_or(0),
+        stores: counts.stores.unwrap_or(0),
+    };
+    Entry {
+        rec,
+        core: times.core.unwrap_or(0),
+        start: times.start.unwrap_or(0),
+        end_at: times.end_at.unwrap_or(0),
+    }
+}
+
+/// Adds a line that has no fault, by the number of the task that it names.
+fn add(log: &mut Log, task: u32, line: &LogLine) -> Result<(), LogError>
+    requires range { is_out_of_range line.now ≡ false }
+    ensures ok { OnOk result ((tasks : List TaskValue) → task ≡ task_of tasks line.now → log.new ≡ with_line tasks log.old line.now) }
+    ensures err { IfErr result (λ e. e ≡ Memory) }
+{
+    match *line {
+        LogLine::First { cores } => log.set_cores(cores.unwrap_or(0)),
+        LogLine::Task { outcome, .. } => log.add_outcome(outcome)?,
+        LogLine::Run {
+            k,
+            end,
+            counts,
+            times,
+            ..
+        } => log.add_entry(entry_value(task, k, end, counts, times))?,
+        LogLine::End => {}
+    }
+    Ok(())
+}
+
+/// The log that log lines of a run of the map spell, or their first fault.
+///
+/// `end` is the number of the line that closes the section.
+pub fn read_log(alloc: Global, map: &Map, lines: &[Line<'_>], end: u32) -> Result<Log, LogError>
+    ensures answer { MatchResult result
+        (λ log. IsFaultless (Breaks map.now.tasks) (closed (text_lines lines.now) end) × (log ≡ log_of map.now.tasks (text_lines lines.now)))
+        (λ e. Faults map.now.tasks (closed (text_lines lines.now) end) e) }
+    ensures one_each { IfOk result (λ log. length log.outcomes ≡ length map.now.tasks) }
+    ensures few { IfOk result (λ log. length log.entries ≤ 65536) }
+    ensures tasks { IfOk result (λ log. All (λ (e : Entry). e.rec.t < length map.now.tasks) log.entries) }
+{
+    let tasks = map.tasks();
+    let numbers = numbers(alloc, tasks)?;
+    let mut log = Log::of(0, Vec::new(alloc), Vec::new(alloc));
+    for (n, line) in lines.iter().enumerate() {
+        match checked(tasks, &numbers, n, &log, line.text) {
+            Ok(found) => add(&mut log, found.task, &found.line)?,
+            Err(kind) => {
+                let line = line.number;
+                return Err(LogError::At { line, kind });
+            }
+        }
+    }
+    if lines.len() <= tasks.len() {
+        let kind = LogKind::Form;
+        return Err(LogError::At { line: end, kind });
+    }
+    Ok(log)
+}

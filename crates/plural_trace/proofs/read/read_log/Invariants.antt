@@ -1,7 +1,0 @@
-use Rattle.std.proofs.Common.{take}
-use Rattle.plural_bytes.specs.Spelled.{text_lines}
-use Rattle.plural_trace.proofs.Reading.{Reads}
-use Rattle.plural_trace.proofs.read.read_log.Given as goal
-
-abbrev pub invariant-loop-n : goal.invariant-loop-n
-invariant-loop-n l = Reads l.map.tasks (text_lines (take l.n l.lines)) l.log
