@@ -52,74 +52,69 @@ fn put_word(out: &mut Vec<u8>, word: u32) -> Result<(), Memory>
     put(out, &hex(word))
 }
 
-fn put_trap(out: &mut Vec<u8>, alloc: Global, cause: u8, pc: u32) -> Result<(), Memory>
+fn put_trap(out: &mut Vec<u8>, cause: u8, pc: u32) -> Result<(), Memory>
     ensures { OnOk result (out.new.items ≡ out.old.items ++ end_text (Trap cause pc)) }
 {
     put(out, b"trap ")?;
-    put_number(out, alloc, u32::from(cause))?;
+    put_number(out, u32::from(cause))?;
     put(out, b" pc ")?;
     put_word(out, pc)
 }
 
-fn put_end(out: &mut Vec<u8>, alloc: Global, end: End) -> Result<(), Memory>
+fn put_end(out: &mut Vec<u8>, end: End) -> Result<(), Memory>
     ensures { OnOk result (out.new.items ≡ out.old.items ++ end_text end) }
 {
     match end {
         End::Code0 => put(out, b"code 0"),
         End::Code1 => put(out, b"code 1"),
-        End::Trap { cause, pc } => put_trap(out, alloc, cause, pc),
+        End::Trap { cause, pc } => put_trap(out, cause, pc),
         End::Exhausted => put(out, b"spent"),
     }
 }
 
-fn put_counts(out: &mut Vec<u8>, alloc: Global, rec: &Record) -> Result<(), Memory>
+fn put_counts(out: &mut Vec<u8>, rec: &Record) -> Result<(), Memory>
     ensures { OnOk result (out.new.items ≡ out.old.items ++ counts_text rec.now) }
 {
     put(out, b" n ")?;
-    put_number(out, alloc, rec.instructions)?;
+    put_number(out, rec.instructions)?;
     put(out, b" loads ")?;
-    put_number(out, alloc, rec.loads)?;
+    put_number(out, rec.loads)?;
     put(out, b" misses ")?;
-    put_number(out, alloc, rec.misses)?;
+    put_number(out, rec.misses)?;
     put(out, b" stores ")?;
-    put_number(out, alloc, rec.stores)
+    put_number(out, rec.stores)
 }
 
-fn put_times(out: &mut Vec<u8>, alloc: Global, entry: &Entry) -> Result<(), Memory>
+fn put_times(out: &mut Vec<u8>, entry: &Entry) -> Result<(), Memory>
     ensures { OnOk result (out.new.items ≡ out.old.items ++ times_text entry.now) }
 {
     put(out, b" core ")?;
-    put_number(out, alloc, entry.core)?;
+    put_number(out, entry.core)?;
     put(out, b" from ")?;
-    put_number(out, alloc, entry.start)?;
+    put_number(out, entry.start)?;
     put(out, b" to ")?;
-    put_number(out, alloc, entry.end_at)?;
+    put_number(out, entry.end_at)?;
     put(out, b"\n")
 }
 
-fn put_entry(out: &mut Vec<u8>, alloc: Global, tasks: &[Task], entry: &Entry) -> Result<(), Memory>
+fn put_entry(out: &mut Vec<u8>, tasks: &[Task], entry: &Entry) -> Result<(), Memory>
     ensures { OnOk result (out.new.items ≡ out.old.items ++ entry_text tasks.now entry.now) }
 {
     put(out, b"run ")?;
     put_name_at(out, tasks, entry.rec.t)?;
     put(out, b" ")?;
-    put_number(out, alloc, entry.rec.k)?;
+    put_number(out, entry.rec.k)?;
     put(out, b" ")?;
-    put_end(out, alloc, entry.rec.end)?;
-    put_counts(out, alloc, &entry.rec)?;
-    put_times(out, alloc, entry)
+    put_end(out, entry.rec.end)?;
+    put_counts(out, &entry.rec)?;
+    put_times(out, entry)
 }
 
-fn put_entries(
-    out: &mut Vec<u8>,
-    alloc: Global,
-    tasks: &[Task],
-    entries: &[Entry],
-) -> Result<(), Memory>
+fn put_entries(out: &mut Vec<u8>, tasks: &[Task], entries: &[Entry]) -> Result<(), Memory>
     ensures { OnOk result (out.new.items ≡ out.old.items ++ flat_map (entry_text tasks.now) entries.now) }
 {
     for entry in entries {
-        put_entry(out, alloc, tasks, entry)?;
+        put_entry(out, tasks, entry)?;
     }
     Ok(())
 }
@@ -133,9 +128,9 @@ pub fn print_log(alloc: Global, map: &Map, log: &Log) -> Result<Vec<u8>, Memory>
 {
     let mut out = Vec::new(alloc);
     put(&mut out, b"log 1 cores ")?;
-    put_number(&mut out, alloc, log.cores())?;
+    put_number(&mut out, log.cores())?;
     put(&mut out, b"\n")?;
     put_tasks(&mut out, map.tasks(), log.outcomes())?;
-    put_entries(&mut out, alloc, map.tasks(), log.entries())?;
+    put_entries(&mut out, map.tasks(), log.entries())?;
     Ok(out)
 }

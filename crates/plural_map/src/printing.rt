@@ -28,28 +28,28 @@ fn mode_text(mode: Mode) -> &'static [u8]
     }
 }
 
-fn put_kind(out: &mut Vec<u8>, alloc: Global, dup: bool, quota: u32) -> Result<(), Memory>
+fn put_kind(out: &mut Vec<u8>, dup: bool, quota: u32) -> Result<(), Memory>
     ensures { OnOk result (out.new.items ≡ out.old.items ++ kind_text dup quota) }
 {
     if dup {
         put(out, b" dup ")?;
-        put_number(out, alloc, quota)?;
+        put_number(out, quota)?;
         put(out, b" ")
     } else {
         put(out, b" regular ")
     }
 }
 
-fn put_task_line(out: &mut Vec<u8>, alloc: Global, task: &Task) -> Result<(), Memory>
+fn put_task_line(out: &mut Vec<u8>, task: &Task) -> Result<(), Memory>
     ensures { OnOk result (out.new.items ≡ out.old.items ++ task_line task.now) }
 {
     put(out, b"task ")?;
     put(out, task.name().bytes())?;
-    put_kind(out, alloc, task.is_dup(), task.quota())?;
+    put_kind(out, task.is_dup(), task.quota())?;
     put(out, b"entry ")?;
     put(out, task.entry().bytes())?;
     put(out, b" budget ")?;
-    put_number(out, alloc, task.budget())?;
+    put_number(out, task.budget())?;
     put(out, b"\n")?;
     Ok(())
 }
@@ -76,16 +76,16 @@ fn put_dep(out: &mut Vec<u8>, tasks: &[Task], dep: &Dep) -> Result<(), Memory>
     Ok(())
 }
 
-fn put_region(out: &mut Vec<u8>, alloc: Global, region: &Region) -> Result<(), Memory>
+fn put_region(out: &mut Vec<u8>, region: &Region) -> Result<(), Memory>
     ensures { OnOk result (out.new.items ≡ out.old.items ++ region_text region.now) }
 {
     put(out, mode_text(region.mode))?;
     put(out, b" ")?;
-    put_number(out, alloc, region.base)?;
+    put_number(out, region.base)?;
     put(out, b" ")?;
-    put_number(out, alloc, region.stride)?;
+    put_number(out, region.stride)?;
     put(out, b" ")?;
-    put_number(out, alloc, region.count)?;
+    put_number(out, region.count)?;
     put(out, b"\n")?;
     Ok(())
 }
@@ -99,11 +99,11 @@ fn put_deps(out: &mut Vec<u8>, tasks: &[Task], deps: &[Dep]) -> Result<(), Memor
     Ok(())
 }
 
-fn put_regions(out: &mut Vec<u8>, alloc: Global, regions: &[Region]) -> Result<(), Memory>
+fn put_regions(out: &mut Vec<u8>, regions: &[Region]) -> Result<(), Memory>
     ensures { OnOk result (out.new.items ≡ out.old.items ++ flat_map region_text regions.now) }
 {
     for region in regions {
-        put_region(out, alloc, region)?;
+        put_region(out, region)?;
     }
     Ok(())
 }
@@ -118,20 +118,20 @@ fn put_join(out: &mut Vec<u8>, some: bool) -> Result<(), Memory>
     }
 }
 
-fn put_task(out: &mut Vec<u8>, alloc: Global, tasks: &[Task], task: &Task) -> Result<(), Memory>
+fn put_task(out: &mut Vec<u8>, tasks: &[Task], task: &Task) -> Result<(), Memory>
     ensures { OnOk result (out.new.items ≡ out.old.items ++ task_text tasks.now task.now) }
 {
-    put_task_line(out, alloc, task)?;
+    put_task_line(out, task)?;
     put_deps(out, tasks, task.deps())?;
     put_join(out, task.joins_some())?;
-    put_regions(out, alloc, task.regions())
+    put_regions(out, task.regions())
 }
 
-fn put_tasks(out: &mut Vec<u8>, alloc: Global, tasks: &[Task]) -> Result<(), Memory>
+fn put_tasks(out: &mut Vec<u8>, tasks: &[Task]) -> Result<(), Memory>
     ensures { OnOk result (out.new.items ≡ out.old.items ++ flat_map (task_text tasks.now) tasks.now) }
 {
     for task in tasks {
-        put_task(out, alloc, tasks, task)?;
+        put_task(out, tasks, task)?;
     }
     Ok(())
 }
@@ -142,12 +142,12 @@ pub fn print(alloc: Global, map: &Map) -> Result<Vec<u8>, Memory>
 {
     let mut out = Vec::new(alloc);
     put(&mut out, b"memory ")?;
-    put_number(&mut out, alloc, map.words())?;
+    put_number(&mut out, map.words())?;
     put(&mut out, b"\ncache ")?;
-    put_number(&mut out, alloc, map.sets())?;
+    put_number(&mut out, map.sets())?;
     put(&mut out, b" ")?;
-    put_number(&mut out, alloc, map.ways())?;
+    put_number(&mut out, map.ways())?;
     put(&mut out, b"\n")?;
-    put_tasks(&mut out, alloc, map.tasks())?;
+    put_tasks(&mut out, map.tasks())?;
     Ok(out)
 }

@@ -33,7 +33,7 @@ fn answer<R: Threads + Sync>(
     let mut sink = MemSink::new(alloc, 1_000_000, 10_000, Vec::new(alloc))?;
     let status = plural(rt, alloc, &words, &mut source, &mut sink, &OpenGate);
     let mut answer = Vec::new(alloc);
-    put_number(&mut answer, alloc, status.into())?;
+    put_number(&mut answer, status.into())?;
     put(&mut answer, b"\n")?;
     put(&mut answer, sink.bytes())?;
     Ok(answer)
@@ -119,11 +119,11 @@ pub(crate) fn report<R: Threads + Sync>(
     }
     let mut report = tally.report;
     put(&mut report, b"rows ")?;
-    put_number(&mut report, alloc, tally.rows)?;
+    put_number(&mut report, tally.rows)?;
     put(&mut report, b" commands ")?;
-    put_number(&mut report, alloc, tally.commands)?;
+    put_number(&mut report, tally.commands)?;
     put(&mut report, b" answered otherwise ")?;
-    put_number(&mut report, alloc, tally.others)?;
+    put_number(&mut report, tally.others)?;
     put(&mut report, b"\n")?;
     Ok(report)
 }

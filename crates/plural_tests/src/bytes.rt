@@ -242,9 +242,7 @@ fn texts_are_compared_and_put_one_behind_the_other(rt: HostRuntime) -> Result<()
     assert_eq!(rt; is_word(b"task".as_slice(), b"tasks".as_slice()), false);
     let mut out = Vec::new(rt.alloc());
     put(&mut out, b"budget ".as_slice()).ok().ok_or("memory")?;
-    put_number(&mut out, rt.alloc(), 4_294_967_295)
-        .ok()
-        .ok_or("memory")?;
+    put_number(&mut out, 4_294_967_295).ok().ok_or("memory")?;
     put(&mut out, b" pc ".as_slice()).ok().ok_or("memory")?;
     put(&mut out, hex(0x0a_bc_de).as_slice())
         .ok()
