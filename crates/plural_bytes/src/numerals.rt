@@ -18,12 +18,10 @@ fn with_digit(value: Option<u64>, base: u32, digit: u32, limit: u64) -> Option<u
     ensures { (n : ℕ) → value ≡ bounded limit n → result ≡ bounded limit (n * base + digit) }
 {
     let value = value?;
-    let next = u128::from(value) * u128::from(base) + u128::from(digit);
-    if next > u128::from(limit) {
-        None
-    } else {
-        Some(next as u64)
-    }
+    let next = value
+        .checked_mul(u64::from(base))?
+        .checked_add(u64::from(digit))?;
+    if next > limit { None } else { Some(next) }
 }
 
 /// The number that digits of a base from 2 to 16 spell, the highest first, where it isn't above
