@@ -6,7 +6,7 @@
 //! are those of `specs/Lines.antt`, `specs/Numerals.antt` and `specs/Names.antt`, for every list of
 //! bytes; numbers are printed in decimal, and words as `specs/Hexadecimal.antt` says.
 //!
-//! Stands on std alone. Every reader and printer of texts stands on it; what the faults of a
+//! Stands on std and the kit's `memchr`. Every reader and printer of texts stands on it; what the faults of a
 //! section's lines are is stated here once for all of them (`specs/Faults.antt`), and so are the
 //! lemmas that printed lines of tokens are read again as these tokens (`proofs/Lined.antt`,
 //! `proofs/Tokens.antt`, `proofs/Decimals.antt`, `proofs/Hexadecimals.antt`).

@@ -6,6 +6,7 @@ ghost use Rattle.plural_bytes.specs.Spelled.{text_lines};
 ghost use Rattle.plural_bytes.specs.Lines.{pieces, is_line_end, is_hash, is_blank, without_cr, drop_while, trimmed, content, content_lines, tokens};
 
 use crate::outside::Memory;
+use memchr::{memchr, memchr_iter};
 use std::alloc::Global;
 
 /// A content line: a line of a text that isn't empty without its line end, its comment and its
@@ -21,7 +22,7 @@ pub struct Line<'a> {
 fn find_line_end(text: &[u8]) -> Option<usize>
     ensures { result ≡ position is_line_end text.now }
 {
-    text.iter().position(|c| *c == b'\n')
+    memchr(b'\n', text)
 }
 
 fn find_hash(text: &[u8]) -> Option<usize>
@@ -136,14 +137,11 @@ pub fn line_count(text: &[u8]) -> u32
     requires { length text.now ≤ 67108864 }
     ensures { result ≡ length (pieces text.now) }
 {
-    let mut rest = text;
-    let mut count: u32 = 0;
-    while !rest.is_empty() {
-        let (_, after) = next_piece(rest);
-        rest = after;
-        count += 1;
+    match text {
+        [] => 0,
+        // Each LF before the last byte ends a line, and so does the last byte.
+        [front @ .., _] => memchr_iter(b'\n', front).count() as u32 + 1,
     }
-    count
 }
 
 /// The first token of a line, and what stands after it. Tokens are a line's longest pieces without
