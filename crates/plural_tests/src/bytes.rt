@@ -28,33 +28,6 @@ fn content_lines_keep_their_numbers(rt: HostRuntime) -> Result<(), Fail> {
 }
 
 #[test]
-fn a_last_line_counts_where_it_is_not_empty(rt: HostRuntime) {
-    let rows = [
-        (b"".as_slice(), 0),
-        (b"\n".as_slice(), 1),
-        (b"a".as_slice(), 1),
-        (b"a\n".as_slice(), 1),
-        (b"a\n\n".as_slice(), 2),
-        (b"a\r\n\r".as_slice(), 2),
-    ];
-    for (text, want) in rows {
-        assert_eq!(rt; line_count(text), want);
-    }
-}
-
-#[test]
-fn tokens_stand_between_blanks(rt: HostRuntime) -> Result<(), Fail> {
-    let mut rest = b" \tread\t0  0x10 ".as_slice();
-    for want in [b"read".as_slice(), b"0".as_slice(), b"0x10".as_slice()] {
-        let (token, after) = next_token(rest).ok_or("no token")?;
-        assert_eq!(rt; token, want);
-        rest = after;
-    }
-    assert!(rt; next_token(rest).is_none());
-    Ok(())
-}
-
-#[test]
 fn numerals_have_any_length(rt: HostRuntime) {
     let top = 18_446_744_073_709_551_615;
     let rows = [
@@ -91,28 +64,6 @@ fn numerals_have_any_length(rt: HostRuntime) {
     ];
     for (text, limit, want) in rows {
         assert_eq!(rt; number(text, limit), want);
-    }
-}
-
-#[test]
-fn names_begin_with_a_letter(rt: HostRuntime) {
-    let rows = [
-        (b"a".as_slice(), true),
-        (b"_9".as_slice(), true),
-        (b"Stage_2".as_slice(), true),
-        (b"abcdefghijklmnopqrstuvwx".as_slice(), true),
-        (b"abcdefghijklmnopqrstuvwxy".as_slice(), false),
-        (b"".as_slice(), false),
-        (b"9a".as_slice(), false),
-        (b"a-b".as_slice(), false),
-        (b"a:".as_slice(), false),
-    ];
-    for (text, want) in rows {
-        let name = Name::of(text);
-        assert_eq!(rt; name.is_some(), want);
-        if let Some(name) = name {
-            assert_eq!(rt; name.bytes(), text);
-        }
     }
 }
 
@@ -200,53 +151,5 @@ fn a_full_sink_fails(rt: HostRuntime) -> Result<(), Fail> {
     assert_eq!(rt; sink.write(b"ab".as_slice()), Ok(1));
     assert_eq!(rt; sink.write(b"b".as_slice()), Err(Failed));
     assert_eq!(rt; sink.write(b"".as_slice()), Err(Failed));
-    Ok(())
-}
-
-#[test]
-fn a_reader_of_std_is_a_source(rt: HostRuntime) -> Result<(), Fail> {
-    let mut source = StdSource::new(b"plural 1\n".as_slice());
-    let text = read_all(rt.alloc(), &mut source, 100).ok().ok_or("a text")?;
-    assert_eq!(rt; text.as_slice(), b"plural 1\n".as_slice());
-    Ok(())
-}
-
-#[test]
-fn a_writer_of_std_is_a_sink(rt: HostRuntime) -> Result<(), Fail> {
-    let mut out = Vec::new(rt.alloc());
-    let mut sink = StdSink::new(&mut out);
-    assert_eq!(rt; write_all(&mut sink, b"accepted".as_slice()), Ok(()));
-    assert_eq!(rt; out.as_slice(), b"accepted".as_slice());
-    Ok(())
-}
-
-#[test]
-fn a_number_is_read_up_to_a_limit(rt: HostRuntime) -> Result<(), Fail> {
-    let rows = [
-        (b"7".as_slice(), Some(Some(7))),
-        (b"0x1F".as_slice(), Some(Some(31))),
-        (b"32".as_slice(), Some(None)),
-        (b"99999999999999999999999".as_slice(), Some(None)),
-        (b"-1".as_slice(), None),
-        (b"".as_slice(), None),
-    ];
-    for (text, want) in rows {
-        assert_eq!(rt; bounded_number(text, 31), want);
-    }
-    Ok(())
-}
-
-#[test]
-fn texts_are_compared_and_put_one_behind_the_other(rt: HostRuntime) -> Result<(), Fail> {
-    assert_eq!(rt; is_word(b"task".as_slice(), b"task".as_slice()), true);
-    assert_eq!(rt; is_word(b"task".as_slice(), b"tasks".as_slice()), false);
-    let mut out = Vec::new(rt.alloc());
-    put(&mut out, b"budget ".as_slice()).ok().ok_or("memory")?;
-    put_number(&mut out, 4_294_967_295).ok().ok_or("memory")?;
-    put(&mut out, b" pc ".as_slice()).ok().ok_or("memory")?;
-    put(&mut out, hex(0x0a_bc_de).as_slice())
-        .ok()
-        .ok_or("memory")?;
-    assert_eq!(rt; out.as_slice(), b"budget 4294967295 pc 000abcde".as_slice());
     Ok(())
 }

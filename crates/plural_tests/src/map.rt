@@ -1,5 +1,5 @@
 //! The worked rows on decisions and map lines.
-use crate::programs::map_of;
+use crate::trial::map_of;
 use arrayvec::ArrayVec;
 use plural_bytes::Name;
 use plural_map::*;
@@ -37,36 +37,6 @@ fn a_task_is_decided_by_its_predecessors(rt: HostRuntime) -> Result<(), Fail> {
     ] {
         assert_eq!(rt; after_two(name, some, first, second), want);
     }
-    Ok(())
-}
-
-#[test]
-fn a_map_has_what_its_lines_say(rt: HostRuntime) -> Result<(), Fail> {
-    let text =
-        b"memory 16\ncache 2 4\ntask a regular entry e budget 9\nwrite 0 0 1\ntask b dup 3 entry e budget 7\nafter a 1\nread 8 1 2";
-    let map = map_of(rt.alloc(), text)?;
-    assert_eq!(rt; (map.words(), map.sets(), map.ways()), (16, 2, 4));
-    assert_eq!(rt; map.order(), [0, 1].as_slice());
-    let [a, b] = map.tasks() else {
-        return Err("two tasks".into());
-    };
-    assert_eq!(rt;
-        (a.quota(), a.is_dup(), b.quota(), b.is_dup()),
-        (1, false, 3, true)
-    );
-    assert_eq!(rt;
-        b.deps(),
-        [Dep {
-            task: 0,
-            when: When::Code1
-        }]
-        .as_slice()
-    );
-    assert_eq!(rt;
-        (b.budget(), b.regions().len(), b.joins_some()),
-        (7, 1, false)
-    );
-    assert_eq!(rt; b.entry().bytes(), b"e".as_slice());
     Ok(())
 }
 

@@ -1,5 +1,5 @@
 //! Chains and branches of small maps, found by hand.
-use crate::programs::map_of;
+use crate::trial::map_of;
 use plural_reach::*;
 use std::test::*;
 

@@ -1,7 +1,8 @@
-//! What the tests share: the text of a bundle by its parts, and one call of the program.
+//! What the tests share: the map of some lines, and one call of the program.
 
-use plural_bytes::{MemSink, MemSource};
+use plural_bytes::{MemSink, MemSource, Name, split};
 use plural_cli::{OpenGate, plural};
+use plural_map::{Map, parse};
 use std::alloc::Global;
 use std::test::Fail;
 use std::thread::Threads;
@@ -48,4 +49,14 @@ pub(crate) fn answered<R: Threads + Sync>(
 ) -> Result<(u8, Vec<u8>), Fail> {
     let source = MemSource::new(input, 1000, Vec::new(alloc));
     answered_by(rt, alloc, command, source, open_sink(alloc)?)
+}
+
+/// The map that these lines spell, whose entries are all `e`.
+pub(crate) fn map_of(alloc: Global, text: &[u8]) -> Result<Map, Fail> {
+    if text.len() > 10_000 {
+        return Err("too long".into());
+    }
+    let lines = split(alloc, text).ok().ok_or("lines")?;
+    let labels = [Name::of(b"e").ok_or("a name")?];
+    Ok(parse(alloc, &lines, &labels, 999, 1).ok().ok_or("a map")?)
 }
