@@ -14,6 +14,28 @@ fn with_line(alloc: Global, text: &str, number: usize, other: &str) -> Result<St
     Ok(out)
 }
 
+/// The number of the line that a change of a row speaks of, and the line that stands there instead; none where `line` is
+/// no change.
+fn change_of(line: &str) -> Option<(usize, &str)> {
+    let change = line.strip_prefix("% ")?;
+    let (number, other) = change.split_once(" ").unwrap_or((change, ""));
+    Some((number.parse::<usize>().unwrap_or(0), other))
+}
+
+/// How many changes of a row speak of a line that the text doesn't have.
+pub(crate) fn lost_changes(head: &str, text: &str) -> u32 {
+    let lines = text.lines().count();
+    let mut lost: u32 = 0;
+    for line in head.lines().skip(1) {
+        if let Some((number, _)) = change_of(line)
+            && (number == 0 || number > lines)
+        {
+            lost = lost.saturating_add(1);
+        }
+    }
+    lost
+}
+
 /// The lines that a row spells out: those that are neither its title, nor a command, nor a change.
 pub(crate) fn spelled(alloc: Global, head: &str) -> Result<String, Memory> {
     let mut out = String::new(alloc);
@@ -30,9 +52,7 @@ pub(crate) fn spelled(alloc: Global, head: &str) -> Result<String, Memory> {
 pub(crate) fn changed(alloc: Global, head: &str, text: &str) -> Result<Option<String>, Memory> {
     let mut out: Option<String> = None;
     for line in head.lines().skip(1) {
-        if let Some(change) = line.strip_prefix("% ") {
-            let (number, other) = change.split_once(" ").unwrap_or((change, ""));
-            let number = number.parse::<usize>().unwrap_or(0);
+        if let Some((number, other)) = change_of(line) {
             let next = match &out {
                 None => with_line(alloc, text, number, other)?,
                 Some(before) => with_line(alloc, before, number, other)?,

@@ -1,6 +1,8 @@
 //! Rows of the program: inputs, and what the one public call of `plural_cli` has to answer to each. They are read from
 //! standard input; a row that is answered otherwise is written as it was answered, and behind all how many rows there were.
-//! This crate's `stdin` holds the rows, and its `stdout` what has to be written of them.
+//! This crate's `stdin` holds the rows, and its `stdout` what has to be written of them. It ends with status 0 where
+//! each command was answered as its row wants and each change speaks of a line that is there, else with 1, or with 3, 5,
+//! 6 or 7 as `plural` does.
 //!
 //! ```text
 //!                an empty line stands in front of each row
@@ -34,12 +36,12 @@ fn main(rt: HostRuntime) -> ExitCode {
     let Ok(rows) = String::from_utf8(bytes) else {
         return ExitCode::from(3);
     };
-    let Ok(text) = report(&rt, rt.alloc(), &rows) else {
+    let Ok((is_well, text)) = report(&rt, rt.alloc(), &rows) else {
         return ExitCode::from(7);
     };
     let mut sink = StdSink::new(rt.stdout());
     match write_all(&mut sink, &text) {
-        Ok(()) => ExitCode::from(0),
+        Ok(()) => ExitCode::from(if is_well { 0 } else { 1 }),
         Err(_) => ExitCode::from(6),
     }
 }

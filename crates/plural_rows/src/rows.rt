@@ -1,6 +1,6 @@
 //! The rows of a text, one behind the other.
 
-use crate::input::{changed, spelled};
+use crate::input::{changed, lost_changes, spelled};
 use plural_bytes::{MemSink, MemSource, Memory, put, put_number};
 use plural_cli::{OpenGate, plural};
 use std::alloc::Global;
@@ -13,6 +13,8 @@ struct Tally {
     commands: u32,
     /// The commands that were answered otherwise.
     others: u32,
+    /// The changes that speak of a line that isn't there.
+    lost: u32,
     /// Those commands, each with its answer.
     report: Vec<u8>,
 }
@@ -85,6 +87,7 @@ fn try_row<R: Threads + Sync>(
         None => &text,
     };
     tally.rows = tally.rows.saturating_add(1);
+    tally.lost = tally.lost.saturating_add(lost_changes(head, before));
     let title = head.lines().next().unwrap_or("");
     for line in head.lines().skip(1) {
         if let Some(command) = line.strip_prefix("$ ") {
@@ -97,17 +100,18 @@ fn try_row<R: Threads + Sync>(
     }
 }
 
-/// What the rows of a text come to: the commands that were answered otherwise than the rows want, each with its answer,
-/// and a line with the counts.
+/// What the rows of a text come to: whether each command was answered as its row wants, and a text with the commands
+/// that weren't, each with its answer, and a line with the counts.
 pub(crate) fn report<R: Threads + Sync>(
     rt: &R,
     alloc: Global,
     rows: &str,
-) -> Result<Vec<u8>, Memory> {
+) -> Result<(bool, Vec<u8>), Memory> {
     let mut tally = Tally {
         rows: 0,
         commands: 0,
         others: 0,
+        lost: 0,
         report: Vec::new(alloc),
     };
     let mut before = String::new(alloc);
@@ -117,6 +121,7 @@ pub(crate) fn report<R: Threads + Sync>(
             before = text;
         }
     }
+    let is_well = tally.others == 0 && tally.lost == 0;
     let mut report = tally.report;
     put(&mut report, b"rows ")?;
     put_number(&mut report, tally.rows)?;
@@ -124,6 +129,8 @@ pub(crate) fn report<R: Threads + Sync>(
     put_number(&mut report, tally.commands)?;
     put(&mut report, b" answered otherwise ")?;
     put_number(&mut report, tally.others)?;
+    put(&mut report, b" changes of no line ")?;
+    put_number(&mut report, tally.lost)?;
     put(&mut report, b"\n")?;
-    Ok(report)
+    Ok((is_well, report))
 }
