@@ -82,7 +82,7 @@ pub(crate) fn read_answer<S: Source>(
         Err(ReadError::Fault) => Err(Missing::Input),
         Err(ReadError::Memory) => Err(Missing::Memory),
         Err(ReadError::TooLong) => match refused(alloc, too_long_of(request)) {
-            Ok(answer) => Ok(answer),
+            Ok(line) => Ok(line),
             Err(_) => Err(Missing::Memory),
         },
         Ok(bytes) => match answer_to(alloc, request, &bytes) {
