@@ -1,6 +1,11 @@
 //! Sources and sinks over std's readers and writers: the trusted edge.
 
-ghost use Rattle.std.specs.Prelude.{◌≡◌, ◌<◌, ◌≤◌};
+ghost use Rattle.std.specs.Prelude.{◌≡◌, ◌<◌, ◌≤◌, OnOk, IfOk};
+ghost use Rattle.std.specs.Result.{IsErr};
+ghost use Rattle.std.specs.Io.{ReadsAtMost};
+ghost use Rattle.plural_bytes.specs.Causes.{HasCause};
+ghost use Rattle.plural_bytes.specs.Streams.{Reads, Writes, IsPart};
+ghost use Rattle.plural_bytes.specs.InMemory.{one_more};
 
 use crate::outside::{Failed, Sink, Source};
 use std::io::{Read, Write};
@@ -28,7 +33,13 @@ impl<R: Read> Source for StdSource<R> {
 
     ghost faults = { λ s. s.faults };
 
-    fn read(&mut self, into: &mut [u8]) -> Result<usize, Failed> {
+    fn read(&mut self, into: &mut [u8]) -> Result<usize, Failed>
+        ensures bound { ReadsAtMost result into.new }
+        ensures bytes { Reads (R.remaining self.old.inner) (R.remaining self.new.inner) result into.new }
+        ensures cause { HasCause self.old.faults self.new.faults result }
+        ensures failed { IsErr result → self.new.faults ≡ one_more self.old.faults }
+        ensures unfailed { OnOk result (self.new.faults ≡ self.old.faults) }
+    {
         match self.inner.read(into) {
             Ok(n) => Ok(n),
             Err(_) => {
@@ -63,7 +74,13 @@ impl<W: Write> Sink for StdSink<W> {
 
     ghost faults = { λ s. s.faults };
 
-    fn write(&mut self, from: &[u8]) -> Result<usize, Failed> {
+    fn write(&mut self, from: &[u8]) -> Result<usize, Failed>
+        ensures bound { IfOk result (λ n. IsPart n from.now) }
+        ensures bytes { Writes (W.contents self.old.inner) (W.contents self.new.inner) result from.now }
+        ensures cause { HasCause self.old.faults self.new.faults result }
+        ensures failed { IsErr result → self.new.faults ≡ one_more self.old.faults }
+        ensures unfailed { OnOk result (self.new.faults ≡ self.old.faults) }
+    {
         match self.inner.write(from) {
             Ok(n) if n > 0 || from.is_empty() => {
                 if self.inner.flush().is_err() {
