@@ -3,7 +3,7 @@ use Rattle.std.proofs.Common.{◌≡◌, ℕ, ◌<◌, true, false, None, List, 
 use Rattle.std.specs.List.{list_all}
 use Rattle.std.proofs.lemmas.Bool.{and_from}
 use Rattle.std.proofs.lemmas.List.Folds.{list_all-append}
-use Rattle.plural_bytes.proofs.Passing.{HasNone, none_pass, position_none, all_append}
+use Rattle.plural_base.proofs.ListTests.{HasNone, none_pass, position_none, all_append}
 use Rattle.plural_bytes.proofs.Lined.{is_inner, EndsPlain, IsLine, all_inner, ends_of, ends_behind, plain_line, line_more}
 use Rattle.plural_statement.specs.Statement.{is_colon, label_of, unlabelled}
 use Rattle.plural_asm.proofs.Plain.{is_word, is_solid, IsOperand, solid_no_colon, solid_of, plain_of}

@@ -12,7 +12,7 @@ use Rattle.std.proofs.lemmas.Map.Text.{is_eq-slice_cmp}
 use Rattle.plural_bytes.specs.Lines.{TextLine}
 use Rattle.plural_bytes.specs.declared.lines.Line.{Line}
 use Rattle.plural_bytes.specs.Spelled.{text_line, text_lines}
-use Rattle.plural_bytes.proofs.Passing.{found_at, found_none}
+use Rattle.plural_base.proofs.ListTests.{found_at, found_none}
 use Rattle.plural_statement.specs.Statement.{label_of}
 use Rattle.plural_asm.specs.Labels.{size_of, is_option, has_label, place_after, place_of, noted}
 

@@ -4,7 +4,7 @@ use Rattle.std.specs.Prelude.{not, ◌&&◌, ◌==◌, nat_lt}
 use Rattle.std.specs.List.{list_all}
 use Rattle.std.proofs.lemmas.Bool.{and_from, and_parts, not-true, not_from_false, ltb-true, lt-ltb, ne_eqb}
 use Rattle.plural_bytes.specs.Lines.{is_blank, tokens}
-use Rattle.plural_bytes.proofs.Passing.{HasNone, list_all_weaker, none_pass}
+use Rattle.plural_base.proofs.ListTests.{HasNone, list_all_weaker, none_pass}
 use Rattle.plural_bytes.proofs.Cuts.{cut_at, uncut}
 use Rattle.plural_bytes.proofs.Lined.{is_plain, plain_parts}
 use Rattle.plural_bytes.proofs.Tokens.{is_token, tokens_joined}

@@ -7,8 +7,8 @@ use Rattle.std.proofs.lemmas.Bool.{and_from, ltb-true, ne_eqb, cond-true, cond-f
 use Rattle.std.proofs.lemmas.List.{length_push, take_at, get_or_at}
 use Rattle.std.proofs.lemmas.List.Folds.{list_all-append}
 use Rattle.plural_bytes.specs.Lines.{is_blank, drop_while}
-use Rattle.plural_bytes.specs.Names.{name_of}
-use Rattle.plural_bytes.proofs.Passing.{HasNone, position_at, before_at, after_at, drop_past}
+use Rattle.plural_base.specs.Names.{name_of}
+use Rattle.plural_base.proofs.ListTests.{HasNone, position_at, before_at, after_at, drop_past}
 use Rattle.plural_bytes.proofs.Lined.{begins_of, no_front}
 use Rattle.plural_isa.specs.RegisterNames.{named}
 use Rattle.plural_statement.specs.Mnemonics.{mnemonic_text, mnemonic_of}

@@ -6,7 +6,7 @@ use Rattle.std.specs.Fmt.{signed_decimal}
 use Rattle.std.proofs.lemmas.Int.{ints}
 use Rattle.std.proofs.lemmas.Bool.{and_from, ltb-true, lt-ltb, eq-eqb, eqb-true, cases_Bool, cond-true, cond-false}
 use Rattle.plural_bytes.specs.Hexadecimal.{hex_text}
-use Rattle.plural_bytes.proofs.Passing.{HasNone, none_pass}
+use Rattle.plural_base.proofs.ListTests.{HasNone, none_pass}
 use Rattle.plural_isa.specs.RegisterNames.{plain_name}
 use Rattle.plural_isa.specs.Decoding.{decoded}
 use Rattle.plural_isa.specs.Encoding.{word_of, is_shift, IsWithin, IsOffset, IsAmount, Fits, HasRegisters}

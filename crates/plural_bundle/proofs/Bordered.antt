@@ -10,7 +10,7 @@ use Rattle.plural_bytes.proofs.Faulted.{round}
 use Rattle.plural_bytes.specs.Lines.{TextLine, has_text}
 use Rattle.plural_bytes.specs.declared.lines.Line.{Line}
 use Rattle.plural_bytes.specs.Spelled.{text_line, text_lines}
-use Rattle.plural_bytes.proofs.Passing.{from_yes, from_no, found, none_found, position_map, none_before}
+use Rattle.plural_base.proofs.ListTests.{from_yes, from_no, found, none_found, position_map, none_before}
 use Rattle.plural_bundle.specs.Sections.{closes, up_to_header, kernel_lines}
 use Rattle.plural_bundle.specs.Borders.{head_of, IsClosed, IsBehind, AllBlank, IsLeftOver}
 use Rattle.plural_bundle.specs.declared.fault.BundleError.TheVariants.{At}

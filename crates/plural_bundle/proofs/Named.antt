@@ -5,7 +5,7 @@ use Rattle.std.specs.List.{AllByRecursion, after_first}
 use Rattle.std.proofs.lemmas.Bool.{false_from_ne_true}
 use Rattle.std.proofs.lemmas.Slice.Eq.{bytes_eq-Decides}
 use Rattle.plural_bytes.specs.Lines.{TextLine}
-use Rattle.plural_bytes.proofs.Passing.{before_at, after_at, all_weaker, all_append}
+use Rattle.plural_base.proofs.ListTests.{before_at, after_at, all_weaker, all_append}
 use Rattle.plural_bundle.specs.declared.fault.Fault.TheVariants.{Form}
 use Rattle.plural_bundle.specs.Sections.{closes, up_to_header, section, map_lines, kernel_lines, image_lines}
 use Rattle.plural_bundle.specs.FirstLine.{first_line_fault}

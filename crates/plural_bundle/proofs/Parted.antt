@@ -7,7 +7,7 @@ use Rattle.std.proofs.lemmas.Bool.{true≢false}
 use Rattle.plural_bytes.specs.Lines.{TextLine, has_text}
 use Rattle.plural_bytes.specs.Faults.{IsFaultless}
 use Rattle.plural_bytes.proofs.Faulted.{faultless_push}
-use Rattle.plural_bytes.proofs.Passing.{none_before, before_at, all_back}
+use Rattle.plural_base.proofs.ListTests.{none_before, before_at, all_back}
 use Rattle.plural_map.specs.Rules as map
 use Rattle.plural_map.specs.Rules.{closed}
 use Rattle.plural_map.specs.Parts.{map_of}

@@ -7,7 +7,7 @@ use Rattle.std.proofs.lemmas.Bool.{cases_lt}
 use Rattle.std.proofs.lemmas.List.{length-map, length-replicate}
 use Rattle.plural_bytes.specs.Lines.{TextLine}
 use Rattle.plural_bytes.specs.Faults.{IsFaultless}
-use Rattle.plural_bytes.proofs.Passing.{all_append}
+use Rattle.plural_base.proofs.ListTests.{all_append}
 use Rattle.plural_map.specs.Value.{MapValue, TaskValue}
 use Rattle.plural_asm.specs.Words.{gathered, label_at, labels_of}
 use Rattle.plural_asm.specs.Labels.{size_of}

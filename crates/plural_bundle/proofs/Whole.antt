@@ -3,7 +3,7 @@ use Rattle.std.proofs.Common.{◌≡◌, ℕ, true, false, List, [], ◌++◌, r
 use Rattle.std.specs.Prelude.{codes, Result, Ok, Err, MatchResult, IsErrAnd}
 use Rattle.plural_bytes.specs.Lines.{TextLine}
 use Rattle.plural_bytes.specs.Faults.{IsFaultless, IsFirstFault}
-use Rattle.plural_bytes.proofs.Passing.{none_before}
+use Rattle.plural_base.proofs.ListTests.{none_before}
 use Rattle.plural_bytes.proofs.Faulted.{last_none, last_first}
 use Rattle.plural_map.specs.Rules as map
 use Rattle.plural_map.specs.Rules.{closed}

@@ -6,7 +6,7 @@ use Rattle.std.proofs.lemmas.Bool.{cond-false, lt-ltb}
 use Rattle.std.proofs.lemmas.List.{length-take}
 use Rattle.std.proofs.lemmas.List.Splits.{slice_split_first}
 use Rattle.plural_bytes.specs.Lines.{pieces, is_line_end, is_blank, drop_while, has_text, tokens}
-use Rattle.plural_bytes.proofs.Passing.{HasNone, found, none_found, none_when}
+use Rattle.plural_base.proofs.ListTests.{HasNone, found, none_found, none_when}
 
 -- ---- at each element that passes
 

@@ -1,13 +1,10 @@
 pub mod Known
-pub mod Passing
 pub mod Cuts
 pub mod Valued
-pub mod Named
 pub mod Faulted
 pub mod Sections
 pub mod Numbered
 pub mod Plain
-pub mod Ranges
 pub mod Decimals
 pub mod Hexadecimals
 pub mod Lined

@@ -6,7 +6,7 @@ use Rattle.std.proofs.lemmas.Bool.{and_from, and_parts, not-true, lt-ltb, cond-t
 use Rattle.std.proofs.lemmas.List.{length_push, get_or_at, reverse-append, reverse-reverse}
 use Rattle.std.proofs.lemmas.List.Folds.{list_all-append}
 use Rattle.plural_bytes.specs.Lines.{is_blank, is_hash, is_line_end, has_text, pieces, content, content_from, trimmed, without_cr, drop_while}
-use Rattle.plural_bytes.proofs.Passing.{list_all_weaker, none_pass, before_none}
+use Rattle.plural_base.proofs.ListTests.{list_all_weaker, none_pass, before_none}
 
 -- ---- bytes
 

@@ -6,9 +6,9 @@ use Rattle.std.specs.Char.{is_ascii_digit}
 use Rattle.std.proofs.lemmas.Fmt.{decimal_nonempty}
 use Rattle.std.proofs.lemmas.Bool.{agree_below_at, eqb-true, ltb-true, lt-ltb, and_from, and_parts, or_left, cond-true, false_from_ne_true, both_ways}
 use Rattle.plural_bytes.specs.Lines.{is_blank, has_text, tokens, pieces, content_from}
-use Rattle.plural_bytes.specs.Names.{begins_name, continues_name, is_name, name_of}
+use Rattle.plural_base.specs.Names.{begins_name, continues_name, is_name, name_of}
 use Rattle.plural_bytes.specs.Hexadecimal.{hex_digit, hex_text}
-use Rattle.plural_bytes.proofs.Passing.{HasNone, list_all_weaker, none_pass}
+use Rattle.plural_base.proofs.ListTests.{HasNone, list_all_weaker, none_pass}
 use Rattle.plural_bytes.proofs.Cuts.{cut_at, uncut}
 use Rattle.plural_bytes.proofs.Decimals.{all_decimal}
 use Rattle.plural_bytes.proofs.Hexadecimals.{all_hex}

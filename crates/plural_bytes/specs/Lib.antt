@@ -1,12 +1,10 @@
+pub use Rattle.plural_base.specs.Names
 pub mod Causes
 pub mod Streams
 pub mod InMemory
 pub mod Lines
 pub mod Numerals
 pub mod Hexadecimal
-pub mod Names
-pub mod NameFields
-pub mod NameBack
 pub mod Faults
 pub mod Spelled
 pub mod Laws

@@ -7,7 +7,8 @@ ghost use Rattle.plural_bytes.specs.Causes.{HasCause};
 ghost use Rattle.plural_bytes.specs.Streams.{Reads, Writes, IsPart};
 ghost use Rattle.plural_bytes.specs.InMemory.{is_listed, one_more};
 
-use crate::outside::{Failed, Memory, Sink, Source};
+use crate::outside::{Failed, Sink, Source};
+use plural_base::Memory;
 use std::alloc::Global;
 use std::marker::Model;
 

@@ -5,7 +5,7 @@ ghost use Rattle.std.specs.List.{before_first};
 ghost use Rattle.plural_bytes.specs.Spelled.{text_lines};
 ghost use Rattle.plural_bytes.specs.Lines.{pieces, is_line_end, is_hash, is_blank, without_cr, drop_while, trimmed, content, content_lines, tokens};
 
-use crate::outside::Memory;
+use plural_base::Memory;
 use memchr::{memchr, memchr_iter};
 use std::alloc::Global;
 

@@ -3,7 +3,7 @@
 ghost use Rattle.std.specs.Prelude.{◌≡◌, ◌<◌, ◌++◌, drop, bytes_eq, OnOk, OnErr};
 ghost use Rattle.std.specs.Fmt.{decimal};
 
-use crate::outside::Memory;
+use plural_base::Memory;
 
 /// Is a text this word, byte for byte?
 pub fn is_word(text: &[u8], word: &[u8]) -> bool

@@ -7,7 +7,7 @@ ghost use Rattle.plural_cache.specs.Cache.{StandsFor, Agrees, IsShape, IsFresh, 
 use crate::access::load_in;
 use crate::bus::Bus;
 use crate::set::Set;
-use plural_bytes::Memory;
+use plural_base::Memory;
 use std::alloc::Global;
 use std::marker::Model;
 

@@ -9,7 +9,7 @@ use Rattle.std.proofs.lemmas.List.Folds.{list_all-append}
 use Rattle.plural_bytes.specs.Lines.{tokens}
 use Rattle.plural_bytes.specs.Laws.{is_printable}
 use Rattle.plural_bytes.specs.Numerals.{value_of, are_digits, spelled}
-use Rattle.plural_bytes.proofs.Passing.{list_all_weaker}
+use Rattle.plural_base.proofs.ListTests.{list_all_weaker}
 use Rattle.plural_bytes.proofs.Plain.{tokens_are_plain}
 use Rattle.plural_image.specs.Shape.{word_token, address_token, all_words, one_to_eight, line_of}
 use Rattle.plural_image.specs.Laws.{LinesArePlain}

@@ -6,7 +6,7 @@ use Rattle.std.proofs.lemmas.Bool.{le-leb, lt-leb}
 use Rattle.std.proofs.lemmas.List.{append-nil, length_push, length-append}
 use Rattle.std.proofs.lemmas.List.Elements.{All-head, All-tail}
 use Rattle.plural_bytes.specs.Lines.{TextLine, pieces, content_from, content_lines}
-use Rattle.plural_bytes.specs.Names.{is_name, name_of}
+use Rattle.plural_base.specs.Names.{is_name, name_of}
 use Rattle.plural_bytes.specs.Hexadecimal.{hex_text}
 use Rattle.plural_bytes.proofs.Decimals.{counted_back}
 use Rattle.plural_bytes.proofs.Tokens.{is_token, AreTokens, all_tokens, joined, tokens_joined, line_next, decimal_token, hex_token, name_back, name_token}

@@ -3,7 +3,7 @@ use Rattle.std.specs.Prelude.{◌≡◌, ℕ, ◌<◌, ◌≤◌, length, IsTrue
 use Rattle.std.specs.List.{All}
 use Rattle.plural_bytes.specs.Lines.{content_lines}
 use Rattle.plural_bytes.specs.Faults.{IsFaultless}
-use Rattle.plural_bytes.specs.Names.{is_name}
+use Rattle.plural_base.specs.Names.{is_name}
 use Rattle.plural_core.specs.declared.end.End.{End}
 use Rattle.plural_core.specs.declared.end.End.TheVariants as end
 use Rattle.plural_map.specs.Value.{TaskValue, MapValue}

@@ -6,7 +6,7 @@ use Rattle.std.specs.Fmt.{digits}
 use Rattle.std.proofs.lemmas.Bool.{and_parts, leb-true, ltb-true}
 use Rattle.std.proofs.lemmas.List.Elements.{All-nil, All-cons}
 use Rattle.plural_bytes.specs.Lines.{TextLine, content_lines}
-use Rattle.plural_bytes.specs.Names.{is_name}
+use Rattle.plural_base.specs.Names.{is_name}
 use Rattle.plural_bytes.specs.Faults.{IsFaultless}
 use Rattle.plural_regions.specs.declared.region.Region.{Region}
 use Rattle.plural_map.specs.declared.outcome.Dep.{Dep}

@@ -8,7 +8,7 @@ use Rattle.std.proofs.lemmas.Option.{slice_get_cases}
 use Rattle.std.proofs.lemmas.List.Elements.{All-weaker}
 use Rattle.std.proofs.lemmas.List.Sums.{position_or_len_is, list_all-from_AllPass}
 use Rattle.std.proofs.lemmas.List.FromFn.{get_or-range_with_len, length-range_with_len}
-use Rattle.plural_bytes.proofs.Ranges.{range_push}
+use Rattle.plural_base.proofs.Ranges.{range_push}
 use Rattle.plural_map.specs.declared.outcome.Dep.{Dep}
 use Rattle.plural_map.specs.Value.{TaskValue}
 use Rattle.plural_map.specs.Order.{is_among, has_all_done, is_ready, next_ready, order_from, IsDeclaredInOrder, DeclaredOrder}

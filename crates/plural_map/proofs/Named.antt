@@ -5,8 +5,8 @@ use Rattle.std.specs.List.{All, AllPairs}
 use Rattle.std.proofs.lemmas.Bool.{false_from_ne_true, or_right}
 use Rattle.std.proofs.lemmas.List.Elements.{All-head, All-tail}
 use Rattle.std.proofs.lemmas.Slice.Eq.{bytes_eq-Decides}
-use Rattle.plural_bytes.specs.Names.{is_name}
-use Rattle.plural_bytes.proofs.Passing.{unwrap_found}
+use Rattle.plural_base.specs.Names.{is_name}
+use Rattle.plural_base.proofs.ListTests.{unwrap_found}
 use Rattle.plural_map.specs.Value.{TaskValue}
 use Rattle.plural_map.specs.Parts.{number_of}
 use Rattle.plural_map.specs.Print.{name_at}

@@ -10,7 +10,7 @@ use Rattle.std.proofs.lemmas.Bool.{cases_lt, eq-eqb, and_parts, or_right, not-tr
 use Rattle.std.proofs.lemmas.List.Folds.{list_any-append}
 use Rattle.std.proofs.lemmas.List.FromFn.{get_or-range_with_len, length-range_with_len}
 use Rattle.std.proofs.lemmas.List.Quantifiers.{position-Some}
-use Rattle.plural_bytes.proofs.Passing.{list_all_weaker}
+use Rattle.plural_base.proofs.ListTests.{list_all_weaker}
 use Rattle.plural_map.specs.declared.outcome.Outcome.{Outcome}
 use Rattle.plural_map.specs.Value.{TaskValue}
 use Rattle.plural_map.specs.Decisions.{outcome_at, HasPredecessors}

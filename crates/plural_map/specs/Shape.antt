@@ -2,7 +2,7 @@
 use Rattle.std.specs.Prelude.{ℕ, ◌&&◌, List, [], ◌∷◌, Option, Some, None, option_map, option_and_then, codes, bytes_eq, if◌then◌else◌}
 use Rattle.plural_bytes.specs.Lines.{tokens}
 use Rattle.plural_bytes.specs.Numerals.{numeral, bounded}
-use Rattle.plural_bytes.specs.Names.{name_of}
+use Rattle.plural_base.specs.Names.{name_of}
 use Rattle.plural_regions.specs.declared.region.Mode.{Mode}
 use Rattle.plural_regions.specs.declared.region.Mode.TheVariants.{Read, Write}
 use Rattle.plural_map.specs.declared.line.MapLine.{MapLine}

@@ -8,7 +8,7 @@ use Rattle.std.proofs.lemmas.List.{append-nil, length-append, get_or_at, get_or_
 use Rattle.std.proofs.lemmas.List.Folds.{list_any_at}
 use Rattle.plural_bytes.specs.Lines.{TextLine, pieces, content_from, content_lines}
 use Rattle.plural_bytes.specs.Faults.{IsFaultless}
-use Rattle.plural_bytes.specs.Names.{is_name}
+use Rattle.plural_base.specs.Names.{is_name}
 use Rattle.plural_bytes.proofs.Tokens.{is_token, joined, tokens_joined, line_next}
 use Rattle.plural_regions.specs.declared.region.Region.{Region}
 use Rattle.plural_regions.specs.Rights.{is_in}

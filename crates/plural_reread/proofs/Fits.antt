@@ -9,7 +9,7 @@ use Rattle.std.proofs.lemmas.List.Elements.{All-push}
 use Rattle.std.proofs.lemmas.List.Sums.{fold_push}
 use Rattle.plural_bytes.specs.Lines.{TextLine}
 use Rattle.plural_bytes.specs.Faults.{IsFaultless}
-use Rattle.plural_bytes.specs.Names.{is_name}
+use Rattle.plural_base.specs.Names.{is_name}
 use Rattle.plural_regions.specs.declared.region.Region.{Region}
 use Rattle.plural_regions.specs.declared.region.Mode.{Mode}
 use Rattle.plural_regions.specs.Bounds.{IsInside, AllInside, IsLeastOutside}

@@ -2,7 +2,7 @@
 use Rattle.std.proofs.Common.{◌≡◌, ℕ, Bool, true, false, Some, None, Option, List, [], ◌∷◌, refl}
 use Rattle.std.specs.Prelude.{◌&&◌, ⊤, MatchOption, codes, bytes_eq, option_map, option_and_then, if◌then◌else◌}
 use Rattle.plural_bytes.specs.Lines.{tokens}
-use Rattle.plural_bytes.specs.Names.{is_name, name_of}
+use Rattle.plural_base.specs.Names.{is_name, name_of}
 use Rattle.plural_regions.specs.declared.region.Mode.{Mode}
 use Rattle.plural_regions.specs.declared.region.Mode.TheVariants.{Read, Write}
 use Rattle.plural_map.specs.declared.line.MapLine.{MapLine}

@@ -3,7 +3,7 @@ use Rattle.std.proofs.Common.{◌≡◌, ℕ, ◌<◌, ◌≤◌, Bool, true, fa
 use Rattle.std.specs.Prelude.{codes, decimal}
 use Rattle.std.specs.List.{list_all}
 use Rattle.std.proofs.lemmas.Bool.{ne_eqb, ltb-false, ltb-true}
-use Rattle.plural_bytes.specs.Names.{is_name}
+use Rattle.plural_base.specs.Names.{is_name}
 use Rattle.plural_bytes.proofs.Decimals.{counted_back}
 use Rattle.plural_bytes.proofs.Tokens.{is_token, joined, all_tokens, decimal_token, name_token, name_back}
 use Rattle.plural_regions.specs.declared.region.Mode.{Mode}

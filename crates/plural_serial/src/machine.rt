@@ -14,7 +14,7 @@ use crate::flat::Flat;
 use crate::outcome::{settled, with_end};
 use crate::program::Program;
 use crate::record_::Record;
-use plural_bytes::Memory;
+use plural_base::Memory;
 use plural_cache::Cache;
 use plural_core::{Hart, Job, run};
 use plural_map::{Decision, Outcome, decide};

@@ -2,7 +2,7 @@ ghost use Rattle.std.specs.Prelude.{◌≡◌, ◌∷◌, ◌++◌, [], List, If
 ghost use Rattle.plural_core.specs.declared.end.End.{End};
 ghost use Rattle.plural_serial.specs.Serial.{outcome_of};
 
-use plural_bytes::Memory;
+use plural_base::Memory;
 use plural_core::End;
 use plural_map::Outcome;
 use std::alloc::Global;

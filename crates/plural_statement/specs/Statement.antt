@@ -3,7 +3,7 @@ use Rattle.std.specs.Prelude.{ℕ, Bool, List, Option, Some, None, ℤ, pos, neg
 use Rattle.std.specs.Option.{option_map_or}
 use Rattle.std.specs.List.{before_first, after_first}
 use Rattle.plural_bytes.specs.Lines.{is_blank, drop_while}
-use Rattle.plural_bytes.specs.Names.{name_of}
+use Rattle.plural_base.specs.Names.{name_of}
 use Rattle.plural_isa.specs.RegisterNames.{named}
 use Rattle.plural_isa.specs.Encoding.{word_of, is_shift}
 use Rattle.plural_isa.specs.declared.instr.Instr.{Instr}

@@ -5,7 +5,7 @@ ghost use Rattle.plural_trace.specs.Least.{least};
 ghost use Rattle.plural_trace.specs.Rules.{breaks_cores, breaks_tickets, entry_at};
 ghost use Rattle.plural_trace.specs.Busy.{is_busy_at};
 
-use plural_bytes::Memory;
+use plural_base::Memory;
 use plural_log::Entry;
 use std::alloc::Global;
 

@@ -15,7 +15,7 @@ use crate::records::record_fault;
 use crate::rise::rise_fault;
 use crate::tickets::ticket_fault;
 use crate::verdict::Verdict;
-use plural_bytes::Memory;
+use plural_base::Memory;
 use plural_log::Log;
 use plural_reach::{Reach, reach};
 use plural_serial::{Answer, Program, serial};

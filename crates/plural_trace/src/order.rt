@@ -6,7 +6,7 @@ ghost use Rattle.plural_trace.specs.Least.{least};
 ghost use Rattle.plural_trace.specs.Rules.{breaks_order};
 ghost use Rattle.plural_trace.specs.Ends.{latest_end, latest_before};
 
-use plural_bytes::Memory;
+use plural_base::Memory;
 use plural_log::Entry;
 use plural_reach::Reach;
 use std::alloc::Global;

@@ -3,7 +3,7 @@ ghost use Rattle.std.specs.Prelude.{◌≡◌, ◌*◌, ◌<◌, ◌^◌, ◌||�
 ghost use Rattle.plural_trace.specs.Least.{least};
 ghost use Rattle.plural_trace.specs.Rules.{breaks_tickets};
 
-use plural_bytes::Memory;
+use plural_base::Memory;
 use plural_log::Entry;
 use std::alloc::Global;
 

@@ -1,7 +1,7 @@
 use Rattle.std.proofs.Common.{ap, ◌∙◌, length}
 use Rattle.std.specs.Prelude.{unwrap_or}
 use Rattle.plural_bytes.specs.declared.lines.Line.{Line}
-use Rattle.plural_bytes.proofs.Passing.{unwrap_found}
+use Rattle.plural_base.proofs.ListTests.{unwrap_found}
 use Rattle.plural_bundle.specs.Sections.{closes}
 use Rattle.plural_bundle.proofs.section.section_len.Goals as goal
 

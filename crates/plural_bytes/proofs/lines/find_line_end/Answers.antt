@@ -4,7 +4,7 @@ use Rattle.std.proofs.lemmas.Bool.{false_from_ne_true}
 use Rattle.std.proofs.lemmas.List.Sums.{position_or_len_is}
 use Rattle.memchr.specs.Find.{IsFirstByte}
 use Rattle.plural_bytes.specs.Lines.{is_line_end}
-use Rattle.plural_bytes.proofs.Passing.{found_at, found_none}
+use Rattle.plural_base.proofs.ListTests.{found_at, found_none}
 use Rattle.plural_bytes.proofs.lines.find_line_end.Goals as goal
 
 -- What a search of bytes answers is the place of the first that passes.

@@ -2,7 +2,7 @@ use Rattle.std.proofs.Common.{ap, ◌+◌, ◌≤◌, ◌<◌, ◌∙◌, sym, l
 use Rattle.std.proofs.lemmas.List.{take_rest, drop_all, length-drop, nil_from_length}
 use Rattle.std.proofs.lemmas.Bool.{eqb-true, eqb-false}
 use Rattle.plural_bytes.specs.Lines.{tokens, is_blank}
-use Rattle.plural_bytes.proofs.Passing.{found}
+use Rattle.plural_base.proofs.ListTests.{found}
 use Rattle.plural_bytes.proofs.Cuts.{tokens_at, tokens_whole, tokens_trimmed, begins, drop_while_shorter, Begins}
 use Rattle.plural_bytes.proofs.lines.next_token.Goals as goal
 

@@ -1,6 +1,6 @@
 use Rattle.std.proofs.Common.{ap, ◌∙◌, length}
 use Rattle.std.specs.Prelude.{bytes_eq, unwrap_or}
-use Rattle.plural_bytes.proofs.Passing.{unwrap_found}
+use Rattle.plural_base.proofs.ListTests.{unwrap_found}
 use Rattle.plural_map.specs.Value.{TaskValue}
 use Rattle.plural_map.proofs.lookup.number_of.Goals as goal
 

@@ -1,5 +1,5 @@
 use Rattle.std.proofs.Common.{◌∙◌, ◌++◌, ◌∷◌, [], ap, sym}
-use Rattle.plural_bytes.proofs.Ranges.{range_push}
+use Rattle.plural_base.proofs.Ranges.{range_push}
 use Rattle.plural_map.proofs.read.numbers.Goals as goal
 
 pub loop-i-preserved : goal.loop-i-preserved

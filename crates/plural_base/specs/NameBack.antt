@@ -1,8 +1,8 @@
 -- The fields of a name come back from its bytes.
 use Rattle.std.specs.Prelude.{◌≡◌, ◌≤◌, ◌-◌, ◌++◌, take, length, replicate}
 use Rattle.std.proofs.lemmas.List.{length-take-le, take-append-drop}
-use Rattle.plural_bytes.specs.NameFields.{name_bytes, IsKept, fields_of}
-use Rattle.plural_bytes.specs.declared.names.Name.TheInside.{Inside}
+use Rattle.plural_base.specs.NameFields.{name_bytes, IsKept, fields_of}
+use Rattle.plural_base.specs.declared.names.Name.TheInside.{Inside}
 
 pub fields_back : (n : Inside) → IsKept n → fields_of (name_bytes n) ≡ n
 fields_back n h =

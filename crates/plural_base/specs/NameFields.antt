@@ -1,7 +1,7 @@
 -- How a name is kept: 24 bytes, of which those past its length are 0.
 use Rattle.std.specs.Prelude.{◌≡◌, ℕ, ◌≤◌, ◌-◌, List, ◌++◌, take, drop, length, replicate, IsTrue}
-use Rattle.plural_bytes.specs.Names.{is_name}
-use Rattle.plural_bytes.specs.declared.names.Name.TheInside.{Inside}
+use Rattle.plural_base.specs.Names.{is_name}
+use Rattle.plural_base.specs.declared.names.Name.TheInside.{Inside}
 
 -- The bytes of a name.
 abbrev pub name_bytes : Inside → List ℕ

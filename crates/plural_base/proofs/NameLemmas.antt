@@ -3,8 +3,8 @@ use Rattle.std.proofs.Common.{◌≡◌, ℕ, ◌≤◌, ◌-◌, true, ◌&&◌
 use Rattle.std.specs.List.{list_all}
 use Rattle.std.proofs.lemmas.Bool.{and_parts, leb-true}
 use Rattle.std.proofs.lemmas.List.{take_at, drop_at, drop-replicate, length-append, length-replicate}
-use Rattle.plural_bytes.specs.Names.{is_name, begins_name, continues_name}
-use Rattle.plural_bytes.specs.NameFields.{IsKept}
+use Rattle.plural_base.specs.Names.{is_name, begins_name, continues_name}
+use Rattle.plural_base.specs.NameFields.{IsKept}
 
 pub name_short : (text : List ℕ) → is_name text ≡ true → length text ≤ 24
 name_short [] e = omega arith

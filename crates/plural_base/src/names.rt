@@ -7,7 +7,7 @@ ghost use Rattle.std.specs.Cmp.{partial_order_from_own_ties};
 ghost use Rattle.std.specs.Cmp.Lexicographic.{slice_cmp};
 ghost use Rattle.std.specs.Cmp.Rules.{comparing};
 ghost use Rattle.std.specs.Ordering.{nat_cmp, as_partial_cmp};
-ghost use Rattle.plural_bytes.specs.Names.{begins_name, continues_name, is_name, name_of};
+ghost use Rattle.plural_base.specs.Names.{begins_name, continues_name, is_name, name_of};
 
 use std::cmp::Ordering;
 use std::marker::Model;
@@ -26,7 +26,7 @@ impl Model for Name {
 
     ghost Value = { List ℕ };
 
-    ghost use Rattle.plural_bytes.specs.NameFields.{name_bytes, IsKept, fields_of};
+    ghost use Rattle.plural_base.specs.NameFields.{name_bytes, IsKept, fields_of};
 
     ghost view = { name_bytes };
 
@@ -34,7 +34,7 @@ impl Model for Name {
 
     ghost inverse = { fields_of };
 
-    ghost use Rattle.plural_bytes.specs.NameBack.{fields_back};
+    ghost use Rattle.plural_base.specs.NameBack.{fields_back};
 
     ghost inverse_ok = { fields_back };
 }

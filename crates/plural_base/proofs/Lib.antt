@@ -1,0 +1,3 @@
+pub mod ListTests
+pub mod Ranges
+pub mod NameLemmas

@@ -1,0 +1,4 @@
+pub mod Names
+pub mod NameFields
+pub mod NameBack
+pub mod Told
