@@ -8,9 +8,9 @@ use Rattle.plural_bytes.specs.Lines.{TextLine, has_text}
 use Rattle.plural_bytes.specs.Faults.{IsFaultless}
 use Rattle.plural_bytes.proofs.Faulted.{faultless_push}
 use Rattle.plural_base.proofs.ListTests.{none_before, before_at, all_back}
-use Rattle.plural_map.specs.Rules as map
-use Rattle.plural_map.specs.Rules.{closed}
-use Rattle.plural_map.specs.Parts.{map_of}
+use Rattle.plural_map_text.specs.Rules as map
+use Rattle.plural_map_text.specs.Rules.{closed}
+use Rattle.plural_map_text.specs.Parts.{map_of}
 use Rattle.plural_asm.specs.Rules as asm
 use Rattle.plural_asm.specs.Labels.{names_of}
 use Rattle.plural_asm.specs.Words.{code_of, labels_of}

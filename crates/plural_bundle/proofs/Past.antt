@@ -4,7 +4,7 @@ use Rattle.plural_bytes.specs.Lines.{TextLine, has_text}
 use Rattle.plural_bytes.specs.Faults.{IsFaultless}
 use Rattle.plural_bytes.proofs.Faulted.{faultless_push}
 use Rattle.plural_base.proofs.ListTests.{all_append}
-use Rattle.plural_map.specs.Rules.{closed}
+use Rattle.plural_map_text.specs.Rules.{closed}
 use Rattle.plural_bundle.specs.declared.fault.Fault.{Fault}
 use Rattle.plural_bundle.specs.declared.fault.Fault.TheVariants as fault
 use Rattle.plural_bundle.specs.declared.fault.BundleError.{BundleError}

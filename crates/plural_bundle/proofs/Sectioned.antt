@@ -2,10 +2,10 @@
 use Rattle.std.proofs.Common.{◌≡◌, ℕ, Bool, true, false, List, [], refl, ap, sym, subst, inl}
 use Rattle.std.specs.Prelude.{codes}
 use Rattle.plural_bytes.specs.Lines.{TextLine}
-use Rattle.plural_map.specs.Rules as map
-use Rattle.plural_map.specs.Parts.{map_of}
-use Rattle.plural_map.specs.declared.fault.MapKind.{MapKind}
-use Rattle.plural_map.specs.declared.fault.MapKind.TheVariants as map_kind
+use Rattle.plural_map_text.specs.Rules as map
+use Rattle.plural_map_text.specs.Parts.{map_of}
+use Rattle.plural_map_text.specs.declared.fault.MapKind.{MapKind}
+use Rattle.plural_map_text.specs.declared.fault.MapKind.TheVariants as map_kind
 use Rattle.plural_asm.specs.Rules as kernels
 use Rattle.plural_asm.specs.Labels.{names_of}
 use Rattle.plural_asm.specs.declared.object.AsmKind.{AsmKind}

@@ -5,12 +5,12 @@ use Rattle.plural_bytes.specs.Lines.{TextLine}
 use Rattle.plural_bytes.specs.Faults.{IsFaultless, IsFirstFault}
 use Rattle.plural_base.proofs.ListTests.{none_before}
 use Rattle.plural_bytes.proofs.Faulted.{last_none, last_first}
-use Rattle.plural_map.specs.Rules as map
-use Rattle.plural_map.specs.Rules.{closed}
-use Rattle.plural_map.specs.Parts.{map_of}
-use Rattle.plural_map.specs.declared.fault.MapKind.{MapKind}
-use Rattle.plural_map.specs.declared.fault.MapError.{MapError}
-use Rattle.plural_map.specs.declared.fault.MapError.TheVariants as map_error
+use Rattle.plural_map_text.specs.Rules as map
+use Rattle.plural_map_text.specs.Rules.{closed}
+use Rattle.plural_map_text.specs.Parts.{map_of}
+use Rattle.plural_map_text.specs.declared.fault.MapKind.{MapKind}
+use Rattle.plural_map_text.specs.declared.fault.MapError.{MapError}
+use Rattle.plural_map_text.specs.declared.fault.MapError.TheVariants as map_error
 use Rattle.plural_asm.specs.Rules as asm
 use Rattle.plural_asm.specs.Labels.{names_of}
 use Rattle.plural_asm.specs.declared.object.AsmError.{AsmError}

@@ -2,7 +2,7 @@
 use Rattle.std.specs.Prelude.{ℕ, List, ⊤}
 use Rattle.plural_bytes.specs.Lines.{TextLine}
 use Rattle.plural_bytes.specs.Faults.{IsFaultless, IsFirstFault}
-use Rattle.plural_map.specs.Rules.{closed}
+use Rattle.plural_map_text.specs.Rules.{closed}
 use Rattle.plural_bundle.specs.Kinds.{rank}
 use Rattle.plural_bundle.specs.Rules.{Breaks}
 use Rattle.plural_bundle.specs.declared.fault.BundleError.{BundleError}

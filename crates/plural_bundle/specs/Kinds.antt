@@ -1,9 +1,9 @@
 -- The kinds of a section's faults under the names that they have in a bundle.
 use Rattle.std.specs.Prelude.{ℕ}
-use Rattle.plural_map.specs.declared.fault.MapKind.{MapKind}
-use Rattle.plural_map.specs.declared.fault.MapKind.TheVariants as map_kind
-use Rattle.plural_map.specs.declared.fault.MapError.{MapError}
-use Rattle.plural_map.specs.declared.fault.MapError.TheVariants as of_map
+use Rattle.plural_map_text.specs.declared.fault.MapKind.{MapKind}
+use Rattle.plural_map_text.specs.declared.fault.MapKind.TheVariants as map_kind
+use Rattle.plural_map_text.specs.declared.fault.MapError.{MapError}
+use Rattle.plural_map_text.specs.declared.fault.MapError.TheVariants as of_map
 use Rattle.plural_asm.specs.declared.object.AsmKind.{AsmKind}
 use Rattle.plural_asm.specs.declared.object.AsmKind.TheVariants as asm_kind
 use Rattle.plural_asm.specs.declared.object.AsmError.{AsmError}

@@ -3,9 +3,9 @@ use Rattle.std.specs.Prelude.{ℕ, ◌≡◌, false, true, List, [], ◌∷◌, 
 use Rattle.std.specs.List.{AllByRecursion}
 use Rattle.plural_bytes.specs.Lines.{TextLine, has_text}
 use Rattle.plural_bytes.specs.Faults.{IsFaultless}
-use Rattle.plural_map.specs.Rules as map
-use Rattle.plural_map.specs.Rules.{closed}
-use Rattle.plural_map.specs.Parts.{map_of}
+use Rattle.plural_map_text.specs.Rules as map
+use Rattle.plural_map_text.specs.Rules.{closed}
+use Rattle.plural_map_text.specs.Parts.{map_of}
 use Rattle.plural_asm.specs.Rules as kernels
 use Rattle.plural_asm.specs.Labels.{names_of}
 use Rattle.plural_asm.specs.Words.{code_of, labels_of}

@@ -1,8 +1,8 @@
 pub use Rattle.plural_bytes.specs.Lines
 pub use Rattle.plural_bytes.specs.Spelled
 pub use Rattle.plural_bytes.specs.Faults
-pub use Rattle.plural_map.specs.Parts
-pub use Rattle.plural_map.specs.Rules as MapRules
+pub use Rattle.plural_map_text.specs.Parts
+pub use Rattle.plural_map_text.specs.Rules as MapRules
 pub use Rattle.plural_asm.specs.Words
 pub use Rattle.plural_asm.specs.Labels
 pub use Rattle.plural_image.specs.Image

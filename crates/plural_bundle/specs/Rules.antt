@@ -2,8 +2,8 @@
 -- before it.
 use Rattle.std.specs.Prelude.{ℕ, zero, suc, ◌≡◌, ◌⊎◌, Bool, true, false, List, [], ◌∷◌, Some, codes, bytes_eq}
 use Rattle.plural_bytes.specs.Lines.{TextLine, has_text}
-use Rattle.plural_map.specs.Rules as map
-use Rattle.plural_map.specs.Parts.{map_of}
+use Rattle.plural_map_text.specs.Rules as map
+use Rattle.plural_map_text.specs.Parts.{map_of}
 use Rattle.plural_asm.specs.Rules as kernels
 use Rattle.plural_asm.specs.Labels.{names_of}
 use Rattle.plural_image.specs.Image as image

@@ -3,7 +3,7 @@ use Rattle.std.specs.Prelude.{ℕ, List, map, bytes_eq}
 use Rattle.std.specs.List.{find}
 use Rattle.std.specs.Option.{option_map_or}
 use Rattle.plural_bytes.specs.Lines.{TextLine}
-use Rattle.plural_map.specs.Parts.{map_of}
+use Rattle.plural_map_text.specs.Parts.{map_of}
 use Rattle.plural_map.specs.Value.{MapValue}
 use Rattle.plural_asm.specs.Words.{code_of, labels_of}
 use Rattle.plural_asm.specs.declared.object.Label.{Label}

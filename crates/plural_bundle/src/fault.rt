@@ -6,7 +6,7 @@ ghost use Rattle.plural_bundle.specs.declared.fault.BundleError.TheVariants.{Mem
 
 use plural_asm::{AsmError, AsmKind};
 use plural_image::{ImageError, ImageKind};
-use plural_map::{MapError, MapKind};
+use plural_map_text::{MapError, MapKind};
 use std::alloc::AllocFailed;
 
 /// What is wrong with a line of a bundle. Of several kinds on one line the first that its section

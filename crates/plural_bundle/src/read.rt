@@ -13,7 +13,7 @@ use crate::section::{kernel_lines, next_section};
 use plural_asm::{assemble, names};
 use plural_bytes::Line;
 use plural_image::read_image;
-use plural_map::parse;
+use plural_map_text::parse;
 use std::alloc::Global;
 
 /// The program and the image that the content lines of a bundle spell, or their first fault. The

@@ -3,7 +3,7 @@ use Rattle.std.proofs.Common.{ℕ, ◌+◌, ◌<◌, List, [], ◌∷◌}
 use Rattle.std.specs.List.{All}
 use Rattle.std.proofs.lemmas.List.Elements.{All-nil, All-cons, All-head, All-tail}
 use Rattle.plural_serial.specs.declared.record_.Record.{Record}
-use Rattle.plural_log.specs.declared.entry.Entry.{Entry}
+use Rattle.plural_trace.specs.declared.entry.Entry.{Entry}
 use Rattle.plural_trace.specs.SerialLog.{serial_entry, serial_entries}
 
 pub entries_within : (n i : ℕ) (rs : List Record) → All (λ (r : Record). r.t < n) rs → All (λ (e : Entry). e.rec.t < n) (serial_entries i rs)

@@ -4,7 +4,7 @@ pub use Rattle.plural_bytes.specs.Lines as ByteLines
 pub use Rattle.plural_bytes.specs.Faults
 pub use Rattle.plural_image.specs.Print
 pub use Rattle.plural_map.specs.Decisions
-pub use Rattle.plural_map.specs.Print as MapPrint
+pub use Rattle.plural_map_text.specs.Print as MapPrint
 pub use Rattle.plural_asm.specs.Words
 pub use Rattle.plural_asm.specs.Rules
 pub use Rattle.plural_asm.specs.WordText

@@ -1,8 +1,8 @@
 -- What holds of the large filter bundle for every seed.
 use Rattle.std.specs.Prelude.{◌≡◌}
 use Rattle.plural_bytes.specs.Lines.{content_lines}
-use Rattle.plural_map.specs.Print.{map_text}
-use Rattle.plural_map.specs.Parts.{map_of}
+use Rattle.plural_map_text.specs.Print.{map_text}
+use Rattle.plural_map_text.specs.Parts.{map_of}
 use Rattle.plural_crew.specs.Clashes.{IsAccepted}
 use Rattle.plural_generator.specs.Tasks.{made_map}
 

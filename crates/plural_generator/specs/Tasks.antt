@@ -6,7 +6,7 @@ use Rattle.plural_regions.specs.declared.region.Mode.TheVariants.{Read, Write}
 use Rattle.plural_map.specs.declared.outcome.Dep.{Dep}
 use Rattle.plural_map.specs.declared.outcome.When.{When}
 use Rattle.plural_map.specs.declared.outcome.When.TheVariants.{Any, Code0, Code1}
-use Rattle.plural_map.specs.RegionOf.{region_of}
+use Rattle.plural_map_text.specs.RegionOf.{region_of}
 use Rattle.plural_map.specs.Value.{TaskValue, MapValue}
 
 -- The region of a line `read BASE STRIDE COUNT`.

@@ -1,6 +1,6 @@
 -- The text of the large filter bundle.
 use Rattle.std.specs.Prelude.{ℕ, List, ◌++◌, codes}
-use Rattle.plural_map.specs.Print.{map_text}
+use Rattle.plural_map_text.specs.Print.{map_text}
 use Rattle.plural_image.specs.Print.{image_text}
 use Rattle.plural_generator.specs.Tasks.{made_map}
 use Rattle.plural_generator.specs.Kernels.{kernel_text}

@@ -7,7 +7,7 @@ use crate::kernels::put_kernels;
 use crate::tasks::map;
 use plural_bytes::Memory;
 use plural_image::print_image;
-use plural_map::print;
+use plural_map_text::print;
 use std::alloc::Global;
 
 /// The text of the large filter bundle of a seed.

@@ -17,19 +17,20 @@ use Rattle.plural_map.specs.declared.outcome.Outcome.{Outcome}
 use Rattle.plural_map.specs.declared.outcome.Outcome.TheVariants as outcome
 use Rattle.plural_map.specs.Value.{TaskValue, MapValue}
 use Rattle.plural_map.specs.Limits.{IsMap}
-use Rattle.plural_map.specs.Print.{name_at}
-use Rattle.plural_map.proofs.Named.{same_name, has_at, Differ, number_at, AreNamed, named_at}
-use Rattle.plural_log.specs.declared.entry.Entry.{Entry}
+use Rattle.plural_map.specs.Lookup.{name_at}
+use Rattle.plural_map.proofs.Lookups.{same_name, has_at, Differ, number_at, AreNamed, named_at}
+use Rattle.plural_trace.specs.declared.entry.Entry.{Entry}
 use Rattle.plural_log.specs.declared.line.EndShape.{EndShape}
 use Rattle.plural_log.specs.declared.line.EndShape.TheVariants as shape
 use Rattle.plural_log.specs.declared.line.LogLine.{LogLine}
 use Rattle.plural_log.specs.declared.line.LogLine.TheVariants as line
-use Rattle.plural_log.specs.Logs.{LogValue}
+use Rattle.plural_trace.specs.Logs.{LogValue}
 use Rattle.plural_log.specs.Print.{task_text, task_texts, end_text, counts_text, times_text, entry_text, log_text}
 use Rattle.plural_log.specs.Shape.{counts_of, times_of, shape, shape_of}
 use Rattle.plural_log.specs.Spelled.{end_value, entry_value, nothing, log_of}
 use Rattle.plural_log.specs.Faults.{is_no_end, least_kind}
-use Rattle.plural_log.specs.Laws.{IsEnd, IsEntry, IsLog, LogAgain}
+use Rattle.plural_trace.specs.Logs.{IsEnd, IsEntry, IsLog}
+use Rattle.plural_log.specs.Laws.{LogAgain}
 use Rattle.plural_log.proofs.Reading.{Reads, reads_nothing, reads_push, none_of_four, closed_reads}
 
 -- ---- one task line

@@ -11,8 +11,7 @@ use Rattle.std.proofs.lemmas.List.Folds.{position_or_len_push}
 use Rattle.std.proofs.lemmas.List.Sums.{prefix_len-le-length}
 use Rattle.std.proofs.lemmas.Map.Text.{is_eq-slice_cmp}
 use Rattle.plural_map.specs.Value.{TaskValue}
-use Rattle.plural_map.specs.Parts.{number_of}
-use Rattle.plural_map.specs.Rules.{has_task}
+use Rattle.plural_map.specs.Lookup.{number_of, has_task}
 use Rattle.std.specs.Option.{option_or}
 use Rattle.plural_log.specs.Numbers.{number_for}
 

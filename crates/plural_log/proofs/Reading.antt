@@ -7,20 +7,20 @@ use Rattle.std.proofs.lemmas.Bool.{not-false, and_parts, eqb-true, leb-true, leb
 use Rattle.std.proofs.lemmas.List.Elements.{All-push}
 use Rattle.std.proofs.lemmas.List.{map_more, length-map, length_push, take_all}
 use Rattle.std.proofs.lemmas.List.Sums.{fold_push}
-use Rattle.plural_map.specs.Parts.{number_of}
+use Rattle.plural_map.specs.Lookup.{number_of, has_task}
 use Rattle.plural_bytes.specs.Lines.{TextLine}
 use Rattle.plural_bytes.specs.declared.lines.Line.{Line}
 use Rattle.plural_bytes.specs.Spelled.{text_line, text_lines}
 use Rattle.plural_bytes.specs.Faults.{IsFaultless, IsFirstFault}
 use Rattle.plural_bytes.proofs.Faulted.{faultless_nil, faultless_push, first_before, length_before, first_fault}
 use Rattle.plural_map.specs.Value.{TaskValue}
-use Rattle.plural_map.specs.Rules.{closed, has_task}
-use Rattle.plural_log.specs.declared.entry.Entry.{Entry}
+use Rattle.plural_map_text.specs.Rules.{closed}
+use Rattle.plural_trace.specs.declared.entry.Entry.{Entry}
 use Rattle.plural_log.specs.declared.line.LogLine.{LogLine}
 use Rattle.plural_log.specs.declared.line.LogLine.TheVariants as line
 use Rattle.plural_log.specs.declared.fault.LogKind.{LogKind}
 use Rattle.plural_log.specs.declared.fault.LogKind.TheVariants as kinds
-use Rattle.plural_log.specs.Logs.{LogValue}
+use Rattle.plural_trace.specs.Logs.{LogValue}
 use Rattle.plural_log.specs.Shape.{shape_of}
 use Rattle.plural_log.specs.Spelled.{entry_value, with_line, with_text, nothing, log_of}
 use Rattle.plural_log.specs.Faults.{HasKind, Breaks, is_out_of_place, is_out_of_range, is_misnamed, is_too_many, least_kind, IsLineFault, rank}

@@ -3,8 +3,8 @@ use Rattle.std.specs.Prelude.{◌≡◌, ℕ, ◌-◌, Bool, true, false, not, �
 use Rattle.plural_bytes.specs.Lines.{TextLine}
 use Rattle.plural_bytes.specs.Faults.{IsFirstFault}
 use Rattle.plural_map.specs.Value.{TaskValue}
-use Rattle.plural_map.specs.Print.{name_at}
-use Rattle.plural_map.specs.Rules.{is_between, has_task}
+use Rattle.plural_map.specs.Lookup.{name_at, has_task}
+use Rattle.plural_map_text.specs.Rules.{is_between}
 use Rattle.plural_log.specs.declared.fault.LogKind.{LogKind}
 use Rattle.plural_log.specs.declared.fault.LogKind.TheVariants as kinds
 use Rattle.plural_log.specs.declared.fault.LogError.{LogError}
@@ -15,7 +15,7 @@ use Rattle.plural_log.specs.declared.line.Counts.{Counts}
 use Rattle.plural_log.specs.declared.line.Times.{Times}
 use Rattle.plural_log.specs.declared.line.LogLine.{LogLine}
 use Rattle.plural_log.specs.declared.line.LogLine.TheVariants as line
-use Rattle.plural_log.specs.Logs.{LogValue}
+use Rattle.plural_trace.specs.Logs.{LogValue}
 use Rattle.plural_log.specs.Shape.{shape_of}
 use Rattle.plural_log.specs.Spelled.{log_of}
 

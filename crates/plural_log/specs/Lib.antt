@@ -2,8 +2,8 @@ pub use Rattle.plural_bytes.specs.Lines
 pub use Rattle.plural_bytes.specs.Spelled as LinesSpelled
 pub use Rattle.plural_bytes.specs.Faults as LinesFaults
 pub use Rattle.plural_map.specs.Value
-pub use Rattle.plural_map.specs.Rules as MapRules
-pub mod Logs
+pub use Rattle.plural_trace.specs.Logs
+pub use Rattle.plural_map_text.specs.Rules as MapRules
 pub mod Print
 pub mod Words
 pub mod Shape

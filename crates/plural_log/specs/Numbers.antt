@@ -1,7 +1,7 @@
 -- The numbers of tasks by their names.
 use Rattle.std.specs.Prelude.{ℕ, List, Option, length, position, bytes_eq}
 use Rattle.plural_map.specs.Value.{TaskValue}
-use Rattle.plural_map.specs.Parts.{number_of}
+use Rattle.plural_map.specs.Lookup.{number_of}
 use Rattle.plural_log.specs.declared.line.LogLine.{LogLine}
 use Rattle.plural_log.specs.declared.line.LogLine.TheVariants as line
 

@@ -8,10 +8,10 @@ use Rattle.plural_core.specs.declared.end.End.TheVariants as end
 use Rattle.plural_map.specs.declared.outcome.Outcome.{Outcome}
 use Rattle.plural_map.specs.declared.outcome.Outcome.TheVariants as outcome
 use Rattle.plural_map.specs.Value.{TaskValue, MapValue}
-use Rattle.plural_map.specs.Print.{name_at}
+use Rattle.plural_map.specs.Lookup.{name_at}
 use Rattle.plural_serial.specs.declared.record_.Record.{Record}
-use Rattle.plural_log.specs.declared.entry.Entry.{Entry}
-use Rattle.plural_log.specs.Logs.{LogValue}
+use Rattle.plural_trace.specs.declared.entry.Entry.{Entry}
+use Rattle.plural_trace.specs.Logs.{LogValue}
 
 -- `ended 0`, `ended 1`, `skipped` or `failed`.
 abbrev pub outcome_text : Outcome → List ℕ

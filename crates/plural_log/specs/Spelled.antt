@@ -5,15 +5,15 @@ use Rattle.plural_bytes.specs.Lines.{TextLine}
 use Rattle.plural_core.specs.declared.end.End.{End}
 use Rattle.plural_core.specs.declared.end.End.TheVariants as ended
 use Rattle.plural_map.specs.Value.{TaskValue}
-use Rattle.plural_map.specs.Parts.{number_of}
-use Rattle.plural_log.specs.declared.entry.Entry.{Entry}
+use Rattle.plural_map.specs.Lookup.{number_of}
+use Rattle.plural_trace.specs.declared.entry.Entry.{Entry}
 use Rattle.plural_log.specs.declared.line.EndShape.{EndShape}
 use Rattle.plural_log.specs.declared.line.EndShape.TheVariants as end
 use Rattle.plural_log.specs.declared.line.Counts.{Counts}
 use Rattle.plural_log.specs.declared.line.Times.{Times}
 use Rattle.plural_log.specs.declared.line.LogLine.{LogLine}
 use Rattle.plural_log.specs.declared.line.LogLine.TheVariants as line
-use Rattle.plural_log.specs.Logs.{LogValue}
+use Rattle.plural_trace.specs.Logs.{LogValue}
 use Rattle.plural_log.specs.Shape.{shape_of}
 
 -- The end that an entry's line tells.

@@ -10,11 +10,12 @@ ghost use Rattle.plural_log.specs.Faults.{is_out_of_place, is_no_end, lacks_coun
 
 use crate::fault::LogKind;
 use crate::line::{Counts, EndShape, LogLine, Times};
-use crate::log::Log;
 use crate::numbers::number_of;
 use crate::shape::shape_of;
 use plural_bytes::Name;
-use plural_map::{Task, is_between};
+use plural_map::Task;
+use plural_map_text::is_between;
+use plural_trace::Log;
 use std::collections::BTreeMap;
 
 fn is_out_of_place(tasks: usize, n: usize, line: &LogLine) -> bool

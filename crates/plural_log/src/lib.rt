@@ -4,24 +4,19 @@
 //! `specs/Spelled.antt`); printing gives the canonical lines (`specs/Print.antt`), which, read again, have no fault and
 //! spell the log (`laws::log_again`).
 //!
-//! Stands on `plural_map`, whose tasks and outcomes the lines name, `plural_serial` and `plural_core` (what an instance
-//! did and how it ended) and `plural_image` (words of eight digits). `plural_trace` judges logs, `plural_output` prints
-//! and reads them beside a memory.
+//! Stands on `plural_trace`, whose logs it spells, `plural_map_text` (names of tasks) and `plural_image` (words of eight
+//! digits). `plural_output` prints and reads logs beside a memory.
 #![tactic(auto)]
 
-mod entry;
 mod fault;
 mod judge_line;
 pub mod laws;
 mod line;
-mod log;
 mod numbers;
 mod printing;
 mod read;
 mod shape;
 
-pub use entry::Entry;
 pub use fault::{LogError, LogKind};
-pub use log::Log;
 pub use printing::print_log;
 pub use read::read_log;

@@ -4,7 +4,7 @@ ghost use Rattle.std.specs.BTreeMap.{get_by};
 ghost use Rattle.std.specs.Cmp.Lexicographic.{slice_cmp};
 ghost use Rattle.std.specs.Option.{option_or};
 ghost use Rattle.std.specs.Ordering.{nat_cmp};
-ghost use Rattle.plural_map.specs.Parts.{number_of};
+ghost use Rattle.plural_map.specs.Lookup.{number_of};
 ghost use Rattle.plural_log.specs.declared.fault.LogError.TheVariants.{Memory};
 ghost use Rattle.plural_log.specs.Numbers.{number_for};
 

@@ -2,16 +2,16 @@
 ghost use Rattle.std.specs.Prelude.{◌≡◌, ◌<◌, ◌++◌, flat_map, length, OnOk, IfOk};
 ghost use Rattle.std.specs.List.{All};
 ghost use Rattle.plural_bytes.specs.Hexadecimal.{hex_text};
-ghost use Rattle.plural_log.specs.declared.entry.Entry.{Entry};
+ghost use Rattle.plural_trace.specs.declared.entry.Entry.{Entry};
 ghost use Rattle.plural_core.specs.declared.end.End.TheVariants.{Trap};
 ghost use Rattle.plural_log.specs.Print.{outcome_text, task_text, task_texts, end_text, counts_text, times_text, entry_text, log_text};
 
-use crate::entry::Entry;
-use crate::log::Log;
 use plural_bytes::{Memory, hex, put, put_number};
 use plural_core::End;
-use plural_map::{Map, Outcome, Task, put_name_at};
+use plural_map::{Map, Outcome, Task};
+use plural_map_text::put_name_at;
 use plural_serial::Record;
+use plural_trace::{Entry, Log};
 use std::alloc::Global;
 
 fn outcome_text(outcome: Outcome) -> &'static [u8]

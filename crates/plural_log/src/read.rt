@@ -3,25 +3,24 @@ ghost use Rattle.std.specs.Prelude.{◌≡◌, ◌≤◌, ◌<◌, ℕ, List, le
 ghost use Rattle.std.specs.List.{All};
 ghost use Rattle.plural_bytes.specs.Faults.{IsFaultless};
 ghost use Rattle.plural_bytes.specs.Spelled.{text_lines};
-ghost use Rattle.plural_map.specs.Parts.{number_of};
-ghost use Rattle.plural_map.specs.Rules.{closed};
+ghost use Rattle.plural_map.specs.Lookup.{number_of};
+ghost use Rattle.plural_map_text.specs.Rules.{closed};
 ghost use Rattle.plural_map.specs.Value.{TaskValue};
-ghost use Rattle.plural_log.specs.declared.entry.Entry.{Entry};
+ghost use Rattle.plural_trace.specs.declared.entry.Entry.{Entry};
 ghost use Rattle.plural_log.specs.declared.fault.LogError.TheVariants.{Memory};
 ghost use Rattle.plural_log.specs.Numbers.{task_of};
 ghost use Rattle.plural_log.specs.Spelled.{end_value, entry_value, with_line, log_of};
 ghost use Rattle.plural_log.specs.Faults.{is_no_end, is_out_of_range, Breaks, Faults};
 
-use crate::entry::Entry;
 use crate::fault::{LogError, LogKind};
 use crate::judge_line::checked;
 use crate::line::{Counts, EndShape, LogLine, Times};
-use crate::log::Log;
 use crate::numbers::numbers;
 use plural_bytes::Line;
 use plural_core::End;
 use plural_map::Map;
 use plural_serial::Record;
+use plural_trace::{Entry, Log};
 use std::alloc::Global;
 
 fn end_value(end: EndShape) -> End

@@ -1,8 +1,8 @@
 -- The text of a made bundle is read without a fault.
 use Rattle.std.proofs.Common.{◌≡◌, ℕ, ◌+◌, [], length, refl, ap, sym, subst, ◌∙◌, append-nil}
 use Rattle.plural_bytes.specs.Lines.{pieces, content_lines}
-use Rattle.plural_map.specs.Parts.{map_of}
-use Rattle.plural_map.specs.Print.{map_text}
+use Rattle.plural_map_text.specs.Parts.{map_of}
+use Rattle.plural_map_text.specs.Print.{map_text}
 use Rattle.plural_asm.specs.Words.{code_of, labels_of}
 use Rattle.plural_image.specs.Image.{image_of}
 use Rattle.plural_image.specs.Print.{image_text}

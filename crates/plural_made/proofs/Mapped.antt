@@ -11,9 +11,9 @@ use Rattle.plural_bytes.specs.Faults.{IsFaultless}
 use Rattle.plural_regions.specs.declared.region.Region.{Region}
 use Rattle.plural_map.specs.declared.outcome.Dep.{Dep}
 use Rattle.plural_map.specs.Value.{TaskValue, MapValue}
-use Rattle.plural_map.specs.Rules.{Breaks, closed, has}
-use Rattle.plural_map.specs.Parts.{map_of}
-use Rattle.plural_map.specs.Print.{map_text}
+use Rattle.plural_map_text.specs.Rules.{Breaks, closed, has}
+use Rattle.plural_map_text.specs.Parts.{map_of}
+use Rattle.plural_map_text.specs.Print.{map_text}
 use Rattle.plural_reread.specs.Laws.{IsSpelledRegion, IsSpelledTask, IsVersion1}
 use Rattle.plural_reread.proofs.Again.{map_again}
 use Rattle.plural_generator.specs.Tasks.{fir_task, top_task, best_task, loud_task, quiet_task, done_task, made_tasks, made_map}

@@ -5,11 +5,11 @@ use Rattle.std.specs.Option.{option_map_or}
 use Rattle.std.proofs.lemmas.List.{length-map, map-append}
 use Rattle.plural_bytes.specs.Lines.{TextLine, has_text, pieces, content, content_from}
 use Rattle.plural_bytes.specs.Faults.{IsFaultless}
-use Rattle.plural_map.specs.Rules as map_rules
-use Rattle.plural_map.specs.Rules.{closed, HasKind}
-use Rattle.plural_map.specs.Shape.{shape_of}
-use Rattle.plural_map.specs.Parts.{parts_of, whole, map_of, with_line, nothing}
-use Rattle.plural_map.specs.declared.fault.MapKind.TheVariants as map_kind
+use Rattle.plural_map_text.specs.Rules as map_rules
+use Rattle.plural_map_text.specs.Rules.{closed, HasKind}
+use Rattle.plural_map_text.specs.Shape.{shape_of}
+use Rattle.plural_map_text.specs.Parts.{parts_of, whole, map_of, with_line, nothing}
+use Rattle.plural_map_text.specs.declared.fault.MapKind.TheVariants as map_kind
 use Rattle.plural_image.specs.Shape.{image_line}
 use Rattle.plural_image.specs.Image as image
 use Rattle.plural_image.specs.Image.{end_of, end_before, IsMisplaced, overwritten, image_of}

@@ -1,15 +1,8 @@
-pub use Rattle.plural_bytes.specs.Lines
-pub use Rattle.plural_bytes.specs.Spelled
-pub use Rattle.plural_bytes.specs.Faults
+pub use Rattle.plural_base.specs.Names
 pub use Rattle.plural_regions.specs.Rights
 pub use Rattle.plural_regions.specs.Bounds
 pub mod Value
+pub mod Lookup
 pub mod Decisions
 pub mod Order
 pub mod Limits
-pub mod Shape
-pub mod RegionOf
-pub mod Parts
-pub mod Rules
-pub mod Drafts
-pub mod Print

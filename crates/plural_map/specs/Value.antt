@@ -1,5 +1,5 @@
 -- A task and a map as contracts see them.
-use Rattle.std.specs.Prelude.{ℕ, Bool, List}
+use Rattle.std.specs.Prelude.{ℕ, Bool, List, [], ◌∷◌, ◌++◌}
 use Rattle.plural_regions.specs.declared.region.Region.{Region}
 use Rattle.plural_map.specs.declared.outcome.Dep.{Dep}
 
@@ -22,3 +22,11 @@ pub record MapValue : Type 0 where
   pub ways : ℕ
   pub tasks : List TaskValue
   pub order : List ℕ
+
+-- A task with one more dependency.
+abbrev pub with_dep : Dep → TaskValue → TaskValue
+with_dep dep t = record t { deps = t.deps ++ dep ∷ [] }
+
+-- A task with one more region.
+abbrev pub with_region : Region → TaskValue → TaskValue
+with_region region t = record t { regions = t.regions ++ region ∷ [] }

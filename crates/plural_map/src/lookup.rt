@@ -1,10 +1,9 @@
 //! Tasks by their names.
 ghost use Rattle.std.specs.Prelude.{◌≡◌, ◌≤◌, length, bytes_eq, position};
-ghost use Rattle.plural_map.specs.Parts.{number_of};
-ghost use Rattle.plural_map.specs.Rules.{has_task};
+ghost use Rattle.plural_map.specs.Lookup.{number_of, has_task};
 
 use crate::task::Task;
-use plural_bytes::Name;
+use plural_base::Name;
 
 /// Has one of the tasks this name?
 pub fn has_task(tasks: &[Task], name: &Name) -> bool

@@ -1,9 +1,9 @@
 ghost use Rattle.std.specs.Prelude.{◌≡◌, ◌<◌, length};
-ghost use Rattle.plural_map.specs.Parts.{with_dep, with_region};
+ghost use Rattle.plural_map.specs.Value.{with_dep, with_region};
 
 use crate::outcome::Dep;
 use arrayvec::ArrayVec;
-use plural_bytes::Name;
+use plural_base::Name;
 use plural_regions::Region;
 use std::marker::Model;
 
@@ -111,7 +111,7 @@ impl Task {
     }
 
     /// Gives the task one more dependency.
-    pub(crate) fn add_dep(&mut self, dep: Dep)
+    pub fn add_dep(&mut self, dep: Dep)
         requires { length self.old.deps < 16 }
         ensures { self.new ≡ with_dep dep self.old }
     {
@@ -119,7 +119,7 @@ impl Task {
     }
 
     /// Gives the task one more region.
-    pub(crate) fn add_region(&mut self, region: Region)
+    pub fn add_region(&mut self, region: Region)
         requires { length self.old.regions < 8 }
         ensures { self.new ≡ with_region region self.old }
     {

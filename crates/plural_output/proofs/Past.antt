@@ -3,7 +3,7 @@ use Rattle.std.proofs.Common.{◌≡◌, ℕ, suc, ◌+◌, true, false, List, [
 use Rattle.plural_bytes.specs.Lines.{TextLine, has_text}
 use Rattle.plural_bytes.specs.Faults.{IsFaultless}
 use Rattle.plural_bytes.proofs.Faulted.{faultless_push}
-use Rattle.plural_map.specs.Rules.{closed}
+use Rattle.plural_map_text.specs.Rules.{closed}
 use Rattle.plural_map.specs.Value.{TaskValue}
 use Rattle.plural_bundle.specs.declared.fault.Fault.{Fault}
 use Rattle.plural_bundle.specs.declared.fault.Fault.TheVariants as fault

@@ -5,7 +5,7 @@ use Rattle.plural_bytes.specs.Lines.{TextLine}
 use Rattle.plural_bytes.specs.Faults.{IsFaultless, IsFirstFault}
 use Rattle.plural_bytes.proofs.Faulted.{faultless_nil, faultless_push}
 use Rattle.plural_bytes.proofs.Sections.{Delegates, faultless_section, first_in_section}
-use Rattle.plural_map.specs.Rules.{closed}
+use Rattle.plural_map_text.specs.Rules.{closed}
 use Rattle.plural_map.specs.Value.{TaskValue}
 use Rattle.plural_bundle.specs.declared.fault.Fault.{Fault}
 use Rattle.plural_bundle.specs.declared.fault.Fault.TheVariants as fault

@@ -4,7 +4,7 @@ use Rattle.std.specs.Prelude.{codes, Result, Ok, Err, MatchResult, IsErrAnd}
 use Rattle.plural_bytes.specs.Lines.{TextLine}
 use Rattle.plural_bytes.specs.Faults.{IsFaultless, IsFirstFault}
 use Rattle.plural_bytes.proofs.Faulted.{last_none, last_first}
-use Rattle.plural_map.specs.Rules.{closed}
+use Rattle.plural_map_text.specs.Rules.{closed}
 use Rattle.plural_map.specs.Value.{TaskValue}
 use Rattle.plural_image.specs.Image as image
 use Rattle.plural_image.specs.Image.{image_of}
@@ -12,7 +12,7 @@ use Rattle.plural_image.specs.Answer as image_answer
 use Rattle.plural_image.specs.declared.fault.ImageError.{ImageError}
 use Rattle.plural_image.specs.declared.fault.ImageError.TheVariants as image_error
 use Rattle.plural_log.specs.Faults as log
-use Rattle.plural_log.specs.Logs.{LogValue}
+use Rattle.plural_trace.specs.Logs.{LogValue}
 use Rattle.plural_log.specs.Spelled.{log_of}
 use Rattle.plural_log.specs.declared.fault.LogKind.{LogKind}
 use Rattle.plural_log.specs.declared.fault.LogError.{LogError}

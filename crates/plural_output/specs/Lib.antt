@@ -4,7 +4,7 @@ pub use Rattle.plural_bytes.specs.Faults
 pub use Rattle.plural_map.specs.Value as MapValue
 pub use Rattle.plural_bundle.specs.Sections
 pub use Rattle.plural_bundle.specs.Kinds as BundleKinds
-pub use Rattle.plural_log.specs.Logs
+pub use Rattle.plural_trace.specs.Logs
 pub use Rattle.plural_log.specs.Spelled as LogSpelled
 pub use Rattle.plural_image.specs.Image
 pub mod Text

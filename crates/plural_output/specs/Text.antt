@@ -2,7 +2,7 @@
 use Rattle.std.specs.Prelude.{ℕ, List, ◌++◌, codes}
 use Rattle.plural_map.specs.Value.{MapValue}
 use Rattle.plural_image.specs.Print.{image_text}
-use Rattle.plural_log.specs.Logs.{LogValue}
+use Rattle.plural_trace.specs.Logs.{LogValue}
 use Rattle.plural_log.specs.Print.{log_text}
 
 -- The lines of the log, `[image]`, the lines of the image, `[end]`.

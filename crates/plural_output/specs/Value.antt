@@ -4,7 +4,7 @@ use Rattle.plural_bytes.specs.Lines.{TextLine}
 use Rattle.plural_map.specs.Value.{TaskValue}
 use Rattle.plural_image.specs.Image.{image_of}
 use Rattle.plural_bundle.specs.Sections.{up_to_header, section}
-use Rattle.plural_log.specs.Logs.{LogValue}
+use Rattle.plural_trace.specs.Logs.{LogValue}
 use Rattle.plural_log.specs.Spelled.{log_of}
 
 -- An output as contracts see it: the log of the run, and the words of the memory behind it.

@@ -1,4 +1,4 @@
-use plural_log::Log;
+use plural_trace::Log;
 use std::marker::Model;
 
 /// The output of a run: its log, and the memory's words behind it, as many as its map has.

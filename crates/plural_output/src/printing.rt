@@ -1,12 +1,13 @@
 //! The text of an output.
 ghost use Rattle.std.specs.Prelude.{◌≡◌, ◌<◌, ◌≤◌, ◌%◌, length, IfOk};
 ghost use Rattle.std.specs.List.{All};
-ghost use Rattle.plural_log.specs.declared.entry.Entry.{Entry};
+ghost use Rattle.plural_trace.specs.declared.entry.Entry.{Entry};
 ghost use Rattle.plural_output.specs.Text.{output_text};
 
 use plural_bytes::{Memory, put};
 use plural_image::print_image;
-use plural_log::{Log, print_log};
+use plural_log::print_log;
+use plural_trace::Log;
 use plural_map::Map;
 use std::alloc::Global;
 

@@ -3,7 +3,7 @@
 ghost use Rattle.std.specs.Prelude.{◌≡◌, ◌<◌, ◌≤◌, length, MatchResult, IfOk};
 ghost use Rattle.std.specs.List.{All};
 ghost use Rattle.plural_bytes.specs.Spelled.{text_lines};
-ghost use Rattle.plural_log.specs.declared.entry.Entry.{Entry};
+ghost use Rattle.plural_trace.specs.declared.entry.Entry.{Entry};
 ghost use Rattle.plural_output.specs.Value.{output_of};
 ghost use Rattle.plural_output.specs.Answer.{IsOutput, Faults};
 

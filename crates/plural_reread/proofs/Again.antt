@@ -14,18 +14,19 @@ use Rattle.plural_regions.specs.declared.region.Region.{Region}
 use Rattle.plural_regions.specs.Rights.{is_in}
 use Rattle.plural_regions.specs.Bounds.{AllInside}
 use Rattle.plural_regions.proofs.Regions.{is_in_when}
-use Rattle.plural_map.specs.declared.line.MapLine.TheVariants as line
+use Rattle.plural_map_text.specs.declared.line.MapLine.TheVariants as line
 use Rattle.plural_map.specs.declared.outcome.Dep.{Dep}
 use Rattle.plural_map.specs.Value.{TaskValue, MapValue}
 use Rattle.plural_map.specs.Limits.{IsTask, IsMap}
 use Rattle.plural_map.specs.Order.{order_of}
-use Rattle.plural_map.specs.Shape.{shape, shape_of}
-use Rattle.plural_map.specs.Parts.{Parts, number_of, nothing, with_line, whole, map_of, quota_of}
-use Rattle.plural_map.specs.Print.{line_text, name_at, when_text, mode_text, task_line, dep_text, join_text, region_text, task_text, map_text}
-use Rattle.plural_map.specs.Rules.{Breaks, closed, has, has_task, has_dep, task_count, instance_count}
-use Rattle.plural_map.proofs.Kept.{length_all, quotas_all}
-use Rattle.plural_map.proofs.Reading.{Reads, IsFine, reads_nothing, reads_push, closed_faultless}
-use Rattle.plural_map.proofs.Named.{Differ, AreNamed, name_before, has_at, number_at, named_at}
+use Rattle.plural_map_text.specs.Shape.{shape, shape_of}
+use Rattle.plural_map_text.specs.Parts.{Parts, nothing, with_line, whole, map_of, quota_of}
+use Rattle.plural_map.specs.Lookup.{number_of, name_at, has_task}
+use Rattle.plural_map_text.specs.Print.{line_text, when_text, mode_text, task_line, dep_text, join_text, region_text, task_text, map_text}
+use Rattle.plural_map_text.specs.Rules.{Breaks, closed, has, has_dep, task_count, instance_count}
+use Rattle.plural_map_text.proofs.Kept.{length_all, quotas_all}
+use Rattle.plural_map_text.proofs.Reading.{Reads, IsFine, reads_nothing, reads_push, closed_faultless}
+use Rattle.plural_map.proofs.Lookups.{Differ, AreNamed, name_before, has_at, number_at, named_at}
 use Rattle.plural_reread.specs.Laws.{IsSpelledRegion, IsSpelledTask, IsVersion1, MapAgain}
 use Rattle.plural_reread.proofs.Steps.{Leads, no_step, two_steps, line_step}
 use Rattle.plural_reread.proofs.Shapes.{line_joined, memory_all, memory_shape, cache_all, cache_shape, sets_small, kind_of, dup_back, quota_back, task_tokens, task_joined, task_all, task_shape, after_all, after_shape, region_all, region_shape}

@@ -14,18 +14,19 @@ use Rattle.plural_regions.specs.declared.region.Region.{Region}
 use Rattle.plural_regions.specs.declared.region.Mode.{Mode}
 use Rattle.plural_regions.specs.Bounds.{IsInside, AllInside, IsLeastOutside}
 use Rattle.plural_regions.proofs.Edge.{inside_when, outside_when}
-use Rattle.plural_map.specs.declared.line.MapLine.{MapLine}
-use Rattle.plural_map.specs.declared.line.MapLine.TheVariants as line
-use Rattle.plural_map.specs.declared.fault.MapKind.{MapKind}
-use Rattle.plural_map.specs.declared.fault.MapKind.TheVariants as kinds
+use Rattle.plural_map_text.specs.declared.line.MapLine.{MapLine}
+use Rattle.plural_map_text.specs.declared.line.MapLine.TheVariants as line
+use Rattle.plural_map_text.specs.declared.fault.MapKind.{MapKind}
+use Rattle.plural_map_text.specs.declared.fault.MapKind.TheVariants as kinds
 use Rattle.plural_map.specs.declared.outcome.Dep.{Dep}
-use Rattle.plural_map.specs.Value.{TaskValue}
-use Rattle.plural_map.specs.RegionOf.{region_of}
-use Rattle.plural_map.specs.Shape.{shape_of}
-use Rattle.plural_map.specs.Parts.{Parts, number_of, with_dep, with_region, with_line, with_text, nothing, parts_of, whole}
-use Rattle.plural_map.specs.Rules.{Breaks, HasKind, IsInsideAt, IsOutsideAt, is_between, is_out_of_place, is_out_of_range, is_misnamed, is_too_many, has, closed}
-use Rattle.plural_map.proofs.Kept.{length_all, declared_all}
-use Rattle.plural_map.proofs.Keeps.{IsKept, between, kept_nothing, kept_more, kept_map}
+use Rattle.plural_map.specs.Value.{TaskValue, with_dep, with_region}
+use Rattle.plural_map_text.specs.RegionOf.{region_of}
+use Rattle.plural_map_text.specs.Shape.{shape_of}
+use Rattle.plural_map_text.specs.Parts.{Parts, with_line, with_text, nothing, parts_of, whole}
+use Rattle.plural_map.specs.Lookup.{number_of}
+use Rattle.plural_map_text.specs.Rules.{Breaks, HasKind, IsInsideAt, IsOutsideAt, is_between, is_out_of_place, is_out_of_range, is_misnamed, is_too_many, has, closed}
+use Rattle.plural_map_text.proofs.Kept.{length_all, declared_all}
+use Rattle.plural_map_text.proofs.Keeps.{IsKept, between, kept_nothing, kept_more, kept_map}
 use Rattle.plural_reread.specs.Laws.{IsSpelledRegion, IsVersion1, MapFits}
 use Rattle.plural_reread.proofs.Named.{HasNames, line_named}
 

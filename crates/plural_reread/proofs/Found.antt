@@ -11,9 +11,10 @@ use Rattle.std.proofs.lemmas.List.Sums.{sum-map, sum_by-append, sum_by-cons}
 use Rattle.plural_regions.specs.declared.region.Region.{Region}
 use Rattle.plural_map.specs.declared.outcome.Dep.{Dep}
 use Rattle.plural_map.specs.Value.{TaskValue}
-use Rattle.plural_map.specs.RegionOf.{region_of}
-use Rattle.plural_map.specs.Rules.{has_task, has_dep}
-use Rattle.plural_map.proofs.Named.{Differ, other_name}
+use Rattle.plural_map_text.specs.RegionOf.{region_of}
+use Rattle.plural_map.specs.Lookup.{has_task}
+use Rattle.plural_map_text.specs.Rules.{has_dep}
+use Rattle.plural_map.proofs.Lookups.{Differ, other_name}
 use mathlib.Core.HLevel.{is_prop→PathP}
 
 -- ---- an element and those before it

@@ -5,11 +5,11 @@ use Rattle.plural_bytes.specs.Lines.{tokens}
 use Rattle.plural_base.specs.Names.{is_name, name_of}
 use Rattle.plural_regions.specs.declared.region.Mode.{Mode}
 use Rattle.plural_regions.specs.declared.region.Mode.TheVariants.{Read, Write}
-use Rattle.plural_map.specs.declared.line.MapLine.{MapLine}
-use Rattle.plural_map.specs.declared.line.MapLine.TheVariants as line
-use Rattle.plural_map.specs.declared.line.TaskKind.{TaskKind}
-use Rattle.plural_map.specs.declared.line.TaskKind.TheVariants as kind
-use Rattle.plural_map.specs.Shape.{counted, when_of, memory_line, cache_line, task_end, dup_task, task_line, after_line, region_line, shape, shape_of}
+use Rattle.plural_map_text.specs.declared.line.MapLine.{MapLine}
+use Rattle.plural_map_text.specs.declared.line.MapLine.TheVariants as line
+use Rattle.plural_map_text.specs.declared.line.TaskKind.{TaskKind}
+use Rattle.plural_map_text.specs.declared.line.TaskKind.TheVariants as kind
+use Rattle.plural_map_text.specs.Shape.{counted, when_of, memory_line, cache_line, task_end, dup_task, task_line, after_line, region_line, shape, shape_of}
 
 -- The task's name and its entry are names.
 abbrev pub HasNames : MapLine → Type 0

@@ -8,16 +8,16 @@ use Rattle.plural_bytes.proofs.Decimals.{counted_back}
 use Rattle.plural_bytes.proofs.Tokens.{is_token, joined, all_tokens, decimal_token, name_token, name_back}
 use Rattle.plural_regions.specs.declared.region.Mode.{Mode}
 use Rattle.plural_regions.specs.declared.region.Mode.TheVariants as mode
-use Rattle.plural_map.specs.declared.line.MapLine.TheVariants as line
-use Rattle.plural_map.specs.declared.line.TaskKind.{TaskKind}
-use Rattle.plural_map.specs.declared.line.TaskKind.TheVariants as kind
+use Rattle.plural_map_text.specs.declared.line.MapLine.TheVariants as line
+use Rattle.plural_map_text.specs.declared.line.TaskKind.{TaskKind}
+use Rattle.plural_map_text.specs.declared.line.TaskKind.TheVariants as kind
 use Rattle.plural_map.specs.declared.outcome.When.{When}
 use Rattle.plural_map.specs.declared.outcome.When.TheVariants as when
 use Rattle.plural_map.specs.Value.{TaskValue}
 use Rattle.plural_map.specs.Limits.{is_set_count}
-use Rattle.plural_map.specs.Shape.{shape, when_of}
-use Rattle.plural_map.specs.Parts.{quota_of, is_dup}
-use Rattle.plural_map.specs.Print.{line_text, kind_text, task_line, when_text, mode_text}
+use Rattle.plural_map_text.specs.Shape.{shape, when_of}
+use Rattle.plural_map_text.specs.Parts.{quota_of, is_dup}
+use Rattle.plural_map_text.specs.Print.{line_text, kind_text, task_line, when_text, mode_text}
 
 -- A line of tokens is they with single spaces, and a line end.
 pub line_joined : (t : List ℕ) (ts : List (List ℕ)) → line_text (t ∷ ts) ≡ joined (t ∷ ts) ++ 10 ∷ []

@@ -8,12 +8,12 @@ use Rattle.std.proofs.lemmas.List.Sums.{fold_push}
 use Rattle.plural_bytes.specs.Lines.{TextLine, pieces, content_from}
 use Rattle.plural_bytes.specs.Faults.{IsFaultless}
 use Rattle.plural_bytes.proofs.Tokens.{is_token, joined, tokens_joined, line_next}
-use Rattle.plural_map.specs.declared.line.MapLine.{MapLine}
-use Rattle.plural_map.specs.declared.line.MapLine.TheVariants as line
-use Rattle.plural_map.specs.Shape.{shape, shape_of}
-use Rattle.plural_map.specs.Parts.{Parts, with_line, with_text, nothing, parts_of}
-use Rattle.plural_map.specs.Rules.{Breaks, IsInsideAt, is_out_of_place, is_out_of_range, is_misnamed, is_too_many, closed}
-use Rattle.plural_map.proofs.Reading.{Reads, IsFine, reads_push}
+use Rattle.plural_map_text.specs.declared.line.MapLine.{MapLine}
+use Rattle.plural_map_text.specs.declared.line.MapLine.TheVariants as line
+use Rattle.plural_map_text.specs.Shape.{shape, shape_of}
+use Rattle.plural_map_text.specs.Parts.{Parts, with_line, with_text, nothing, parts_of}
+use Rattle.plural_map_text.specs.Rules.{Breaks, IsInsideAt, is_out_of_place, is_out_of_range, is_misnamed, is_too_many, closed}
+use Rattle.plural_map_text.proofs.Reading.{Reads, IsFine, reads_push}
 
 -- ---- texts behind the first two lines
 

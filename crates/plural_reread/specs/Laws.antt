@@ -8,9 +8,9 @@ use Rattle.plural_regions.specs.declared.region.Region.{Region}
 use Rattle.plural_map.specs.declared.outcome.Dep.{Dep}
 use Rattle.plural_map.specs.Value.{TaskValue, MapValue}
 use Rattle.plural_map.specs.Limits.{IsMap}
-use Rattle.plural_map.specs.Print.{map_text}
-use Rattle.plural_map.specs.Parts.{map_of}
-use Rattle.plural_map.specs.Rules.{Breaks, closed, has}
+use Rattle.plural_map_text.specs.Print.{map_text}
+use Rattle.plural_map_text.specs.Parts.{map_of}
+use Rattle.plural_map_text.specs.Rules.{Breaks, closed, has}
 
 -- The numbers of a region that a line may spell: base and stride of at most 65,535, a count of at most 65,536.
 pub record IsSpelledRegion (r : Region) : Type 0 where

@@ -1,8 +1,8 @@
 //! Maps that were printed and are read again.
 //!
-//! Promise: the canonical lines that `plural_map::print` writes of a map that version 1 of the format spells have no
+//! Promise: the canonical lines that `plural_map_text::print` writes of a map that version 1 of the format spells have no
 //! fault and spell that map (`specs/Laws.antt`, `laws::map_again`), and each map that lines without a fault spell is one
-//! of version 1 (`laws::map_fits`); so a map that `plural_map::parse` answers, printed and read again, gives itself, or
+//! of version 1 (`laws::map_fits`); so a map that `plural_map_text::parse` answers, printed and read again, gives itself, or
 //! memory ran out.
 //! Stands on `plural_map`, whose definitions it speaks of, and on `plural_bytes`, whose lemmas on printed lines it uses
 //! (`proofs/Tokens.antt`). `plural_made` stands on it.

@@ -3,6 +3,7 @@ use crate::trial::map_of;
 use arrayvec::ArrayVec;
 use plural_bytes::Name;
 use plural_map::*;
+use plural_map_text::*;
 use std::test::*;
 
 /// What becomes of a task that depends on tasks 0 and 1.

@@ -2,7 +2,8 @@
 
 use plural_bytes::{MemSink, MemSource, Name, split};
 use plural_cli::{OpenGate, plural};
-use plural_map::{Map, parse};
+use plural_map::Map;
+use plural_map_text::parse;
 use std::alloc::Global;
 use std::test::Fail;
 use std::thread::Threads;

@@ -17,10 +17,10 @@ use Rattle.plural_serial.specs.Program.{ProgramValue, task_at}
 use Rattle.plural_serial.specs.Serial.{Started, Run, instances, with_task, by_decision, opening, serial_of}
 use Rattle.plural_serial.specs.Answer.{AnswerValue, IsSerial, record_of}
 use Rattle.plural_serial.proofs.Settled.{next_within}
-use Rattle.plural_log.specs.declared.entry.Entry.{Entry}
+use Rattle.plural_trace.specs.declared.entry.Entry.{Entry}
 use Rattle.plural_trace.specs.declared.verdict.Verdict.{Verdict}
 use Rattle.plural_trace.specs.declared.verdict.Verdict.TheVariants.{Yes}
-use Rattle.plural_log.specs.Logs.{LogValue}
+use Rattle.plural_trace.specs.Logs.{LogValue}
 use Rattle.plural_trace.specs.Least.{least}
 use Rattle.plural_trace.specs.Rules.{no_entry, entry_at, is_recorded, has_instance, breaks_records, breaks_tickets, ends_late, breaks_order, breaks_cores, breaks_rise, is_same_outcome, breaks_outcomes, breaks_words}
 use Rattle.plural_trace.specs.Verdicts.{or_verdict, judged, records_of, verdict_of}

@@ -10,7 +10,7 @@ use Rattle.plural_trace.specs.Least.{least}
 use Rattle.plural_trace.proofs.Places.{least_same}
 use Rattle.plural_trace.specs.Busy.{is_busy_at}
 use Rattle.plural_trace.specs.Ends.{latest_end, latest_before}
-use Rattle.plural_log.specs.declared.entry.Entry.{Entry}
+use Rattle.plural_trace.specs.declared.entry.Entry.{Entry}
 
 latest_end-next : (t i : ℕ) (es : List Entry) → i < length es → latest_end t (take (i + 1) es) ≡ max (latest_end t (take i es)) (cond (eqb (entry_at es i).rec.t t) ((entry_at es i).end_at + 1) 0)
 latest_end-next t i es lt = ap (λ n. latest_end t (take n es)) (let s : i + 1 ≡ suc i = omega arith in s) ∙ more t i es lt

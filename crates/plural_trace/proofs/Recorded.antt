@@ -6,7 +6,7 @@ use Rattle.std.proofs.lemmas.Bool.{and_parts, cond-true, cond-false, lt-ltb, le-
 use Rattle.std.proofs.lemmas.List.Elements.{All-head, All-tail}
 use Rattle.std.proofs.lemmas.List.Folds.{list_any_more}
 use Rattle.plural_serial.specs.declared.record_.Record.{Record}
-use Rattle.plural_log.specs.declared.entry.Entry.{Entry}
+use Rattle.plural_trace.specs.declared.entry.Entry.{Entry}
 use Rattle.plural_trace.specs.Rules.{no_entry, entry_at, is_of, record_for, is_same_record, is_recorded, has_instance, lacks_instance, breaks_records}
 
 -- ---- the rule at a place

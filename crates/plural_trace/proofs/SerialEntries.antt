@@ -1,7 +1,7 @@
 -- The entries of a serial run, one more.
 use Rattle.std.proofs.Common.{◌≡◌, ℕ, zero, suc, ◌+◌, ◌<◌, List, [], ◌∷◌, ◌++◌, length, take, get_or, ap, ◌∙◌, arith}
 use Rattle.plural_serial.specs.declared.record_.Record.{Record}
-use Rattle.plural_log.specs.declared.entry.Entry.{Entry}
+use Rattle.plural_trace.specs.declared.entry.Entry.{Entry}
 use Rattle.plural_trace.specs.SerialLog.{serial_entry, serial_entries}
 
 -- The entries of one more record.

@@ -16,7 +16,7 @@ use Rattle.plural_reach.specs.Tables.{IsReachOf, says_before}
 use Rattle.plural_reach.specs.Chains.{Before}
 use Rattle.plural_serial.specs.declared.record_.Record.{Record}
 use Rattle.plural_serial.specs.Answer.{AnswerValue}
-use Rattle.plural_log.specs.declared.entry.Entry.{Entry}
+use Rattle.plural_trace.specs.declared.entry.Entry.{Entry}
 use Rattle.plural_trace.specs.declared.verdict.Verdict.TheVariants.{Yes}
 use Rattle.plural_trace.specs.Rules.{no_entry, entry_at, is_of, record_for, is_same_end, is_same_record, is_recorded, has_instance, lacks_instance, breaks_records, is_drawn, breaks_tickets, ends_late, breaks_order, is_busy, overlaps, breaks_cores, breaks_rise, is_same_outcome, breaks_outcomes, breaks_words}
 use Rattle.plural_trace.specs.SerialLog.{serial_entry, serial_entries, serial_log}

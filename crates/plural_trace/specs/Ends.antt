@@ -1,6 +1,6 @@
 -- The latest end of a task's entries, plus one; 0 where it has none.
 use Rattle.std.specs.Prelude.{ℕ, zero, suc, ◌+◌, max, ◌==◌, Bool, if◌then◌else◌, List, [], ◌∷◌, slice_index}
-use Rattle.plural_log.specs.declared.entry.Entry.{Entry}
+use Rattle.plural_trace.specs.declared.entry.Entry.{Entry}
 
 -- The latest end, plus one, of the entries of task t; 0 where there is none.
 abbrev pub latest_end : ℕ → List Entry → ℕ

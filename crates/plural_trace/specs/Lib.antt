@@ -5,7 +5,7 @@ pub use Rattle.plural_serial.specs.Program
 pub use Rattle.plural_serial.specs.Serial
 pub use Rattle.plural_reach.specs.Tables
 pub use Rattle.plural_reach.specs.Chains
-pub use Rattle.plural_log.specs.Logs
+pub mod Logs
 pub mod Least
 pub mod Rules
 pub mod Verdicts

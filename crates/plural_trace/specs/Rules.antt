@@ -7,7 +7,7 @@ use Rattle.plural_core.specs.declared.end.End.TheVariants as end
 use Rattle.plural_map.specs.declared.outcome.Outcome.{Outcome}
 use Rattle.plural_map.specs.declared.outcome.Outcome.TheVariants as outcome
 use Rattle.plural_serial.specs.declared.record_.Record.{Record}
-use Rattle.plural_log.specs.declared.entry.Entry.{Entry}
+use Rattle.plural_trace.specs.declared.entry.Entry.{Entry}
 
 -- What stands past the last entry.
 abbrev pub no_entry : Entry

@@ -2,8 +2,8 @@
 use Rattle.std.specs.Prelude.{ℕ, ◌+◌, ◌*◌, List, [], ◌∷◌}
 use Rattle.plural_serial.specs.declared.record_.Record.{Record}
 use Rattle.plural_serial.specs.Answer.{AnswerValue}
-use Rattle.plural_log.specs.declared.entry.Entry.{Entry}
-use Rattle.plural_log.specs.Logs.{LogValue}
+use Rattle.plural_trace.specs.declared.entry.Entry.{Entry}
+use Rattle.plural_trace.specs.Logs.{LogValue}
 
 -- The entry of the i-th record: on core 0, with the tickets 2i and 2i + 1.
 abbrev pub serial_entry : (i : ℕ) → Record → Entry

@@ -5,10 +5,10 @@ use Rattle.plural_serial.specs.declared.record_.Record.{Record}
 use Rattle.plural_serial.specs.Program.{ProgramValue}
 use Rattle.plural_serial.specs.Serial.{serial_of}
 use Rattle.plural_serial.specs.Answer.{record_of}
-use Rattle.plural_log.specs.declared.entry.Entry.{Entry}
+use Rattle.plural_trace.specs.declared.entry.Entry.{Entry}
 use Rattle.plural_trace.specs.declared.verdict.Verdict.{Verdict}
 use Rattle.plural_trace.specs.declared.verdict.Verdict.TheVariants.{Yes, No}
-use Rattle.plural_log.specs.Logs.{LogValue}
+use Rattle.plural_trace.specs.Logs.{LogValue}
 use Rattle.plural_trace.specs.Least.{least}
 use Rattle.plural_trace.specs.Rules.{breaks_records, breaks_tickets, breaks_order, breaks_cores, breaks_rise, breaks_outcomes, breaks_words}
 

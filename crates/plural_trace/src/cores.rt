@@ -1,12 +1,12 @@
 //! Rule 4: cores, and the intervals of each.
 ghost use Rattle.std.specs.Prelude.{◌≡◌, ℕ, ◌*◌, ◌^◌, ◌<◌, ◌≤◌, None, length, slice_index, slice_index_or, IfOk, IfSome};
-ghost use Rattle.plural_log.specs.declared.entry.Entry.{Entry};
+ghost use Rattle.plural_trace.specs.declared.entry.Entry.{Entry};
 ghost use Rattle.plural_trace.specs.Least.{least};
 ghost use Rattle.plural_trace.specs.Rules.{breaks_cores, breaks_tickets, entry_at};
 ghost use Rattle.plural_trace.specs.Busy.{is_busy_at};
 
+use crate::entry::Entry;
 use plural_base::Memory;
-use plural_log::Entry;
 use std::alloc::Global;
 
 /// At each ticket the entry, of the first m, that starts there; m where none does.

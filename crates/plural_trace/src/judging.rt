@@ -10,13 +10,13 @@ ghost use Rattle.plural_trace.specs.Verdicts.{judged, verdict_of};
 
 use crate::compare::{outcome_fault, word_fault};
 use crate::cores::core_fault;
+use crate::log::Log;
 use crate::order::order_fault;
 use crate::records::record_fault;
 use crate::rise::rise_fault;
 use crate::tickets::ticket_fault;
 use crate::verdict::Verdict;
 use plural_base::Memory;
-use plural_log::Log;
 use plural_reach::{Reach, reach};
 use plural_serial::{Answer, Program, serial};
 use std::alloc::Global;

@@ -1,17 +1,19 @@
-//! The verdict whether a log is legal, and the log of a serial run.
+//! Logs of runs, the verdict whether a log is legal, and the log of a serial run.
 //!
 //! Promise: the verdict on a log is the first of the seven rules that fails, at its least place (`specs/Rules.antt`,
 //! `specs/Verdicts.antt`); the log of a serial run is that of its records (`specs/SerialLog.antt`), fits its map
 //! (`laws::serial_fits`) and is legal with its last memory (`laws::serial_is_legal`).
 //!
-//! Stands on `plural_log`, whose logs it judges, on `plural_serial`, whose run a log is compared with, and on
-//! `plural_reach`, which tells what comes before what. `plural_cli` writes serial logs and verifies outputs by it.
+//! Stands on `plural_serial`, whose records a log has and whose run it is compared with, and on `plural_reach`, which
+//! tells what comes before what. `plural_log` prints and reads logs; `plural_cli` writes serial logs and verifies outputs.
 #![tactic(auto)]
 
 mod compare;
 mod cores;
+mod entry;
 mod judging;
 pub mod laws;
+mod log;
 mod order;
 mod records;
 mod rise;
@@ -19,7 +21,8 @@ mod serial_run;
 mod tickets;
 mod verdict;
 
+pub use entry::Entry;
 pub use judging::legal;
-pub use plural_log::{Entry, Log, LogError, LogKind, print_log, read_log};
+pub use log::Log;
 pub use serial_run::serial_log;
 pub use verdict::Verdict;

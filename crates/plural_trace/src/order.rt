@@ -1,13 +1,13 @@
 //! Rule 3: the order of tasks.
 ghost use Rattle.std.specs.Prelude.{◌≡◌, ℕ, ◌+◌, ◌<◌, ◌≤◌, All, slice_index, length, IfOk, IfSome};
 ghost use Rattle.plural_reach.specs.Tables.{says_before};
-ghost use Rattle.plural_log.specs.declared.entry.Entry.{Entry};
+ghost use Rattle.plural_trace.specs.declared.entry.Entry.{Entry};
 ghost use Rattle.plural_trace.specs.Least.{least};
 ghost use Rattle.plural_trace.specs.Rules.{breaks_order};
 ghost use Rattle.plural_trace.specs.Ends.{latest_end, latest_before};
 
+use crate::entry::Entry;
 use plural_base::Memory;
-use plural_log::Entry;
 use plural_reach::Reach;
 use std::alloc::Global;
 

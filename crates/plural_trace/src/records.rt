@@ -6,8 +6,8 @@ ghost use Rattle.plural_trace.specs.Least.{least};
 ghost use Rattle.plural_trace.specs.Rules.{is_same_record, is_recorded, breaks_records};
 ghost use Rattle.plural_trace.specs.Instances.{record_at, StandFrom, StandByInstance};
 
+use crate::entry::Entry;
 use plural_base::Memory;
-use plural_log::Entry;
 use plural_serial::Record;
 use std::alloc::Global;
 

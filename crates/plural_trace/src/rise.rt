@@ -3,7 +3,7 @@ ghost use Rattle.std.specs.Prelude.{◌≡◌, ◌<◌, length, IfSome};
 ghost use Rattle.plural_trace.specs.Least.{least};
 ghost use Rattle.plural_trace.specs.Rules.{breaks_rise};
 
-use plural_log::Entry;
+use crate::entry::Entry;
 
 /// Whether the entry doesn't start after the one before it.
 fn is_early(entries: &[Entry], i: usize) -> bool

@@ -2,8 +2,9 @@
 ghost use Rattle.std.specs.Prelude.{◌≡◌, ◌<◌, ◌≤◌, ◌*◌, ◌+◌, ◌^◌, length, IfOk};
 ghost use Rattle.plural_trace.specs.SerialLog.{serial_entry, serial_entries, serial_log};
 
+use crate::entry::Entry;
+use crate::log::Log;
 use plural_base::Memory;
-use plural_log::{Entry, Log};
 use plural_serial::{Answer, Record};
 use std::alloc::Global;
 

@@ -3,8 +3,8 @@ ghost use Rattle.std.specs.Prelude.{◌≡◌, ◌*◌, ◌<◌, ◌^◌, ◌||�
 ghost use Rattle.plural_trace.specs.Least.{least};
 ghost use Rattle.plural_trace.specs.Rules.{breaks_tickets};
 
+use crate::entry::Entry;
 use plural_base::Memory;
-use plural_log::Entry;
 use std::alloc::Global;
 
 /// Whether the tickets are no interval below the limit, or one is marked.

@@ -1,7 +1,7 @@
 use Rattle.std.proofs.Common.{ap, ◌∙◌, subst, List, length}
 use Rattle.plural_bundle.specs.Value.{BundleValue}
 use Rattle.plural_output.specs.Value.{OutputValue}
-use Rattle.plural_log.specs.declared.entry.Entry.{Entry}
+use Rattle.plural_trace.specs.declared.entry.Entry.{Entry}
 use Rattle.plural_cli.specs.Verify.{verdict_text, IsJudged}
 use Rattle.plural_cli.proofs.verifying.judged.Goals as goal
 

@@ -1,6 +1,6 @@
 use Rattle.std.proofs.Common.{◌∙◌, ap, length}
 use Rattle.std.specs.Prelude.{unwrap_or}
-use Rattle.plural_map.proofs.Named.{found}
+use Rattle.plural_map.proofs.Lookups.{found}
 use Rattle.plural_log.proofs.numbers.number_of.Goals as goal
 
 pub returns : goal.returns

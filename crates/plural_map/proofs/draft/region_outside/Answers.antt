@@ -1,4 +1,0 @@
-use Rattle.plural_map.proofs.draft.region_outside.Goals as goal
-
-pub returns-in-Ok : goal.returns-in-Ok
-returns-in-Ok c = rw c.in-Some.is (rw c.quota.ensures at c.in-Ok.ensures.inside)

@@ -1,0 +1,284 @@
+-- One line without a fault after the other keeps the limits, and the map of the whole section has them all.
+use Rattle.std.proofs.Common.{◌≡◌, ℕ, ◌+◌, ◌%◌, ◌<◌, ◌≤◌, true, false, Some, None, Option, List, [], length, map, sum, get_or, refl, ap, subst, arith}
+use Rattle.std.specs.Prelude.{◌≢◌, ◌&&◌, ◌||◌, ◌==◌, not, ⊤, MatchOption, bytes_eq, nat_le, nat_lt, unwrap_or, is_none, option_map}
+use Rattle.std.specs.List.{All, AllPairs}
+use Rattle.std.specs.Option.{option_map_or}
+use Rattle.std.proofs.lemmas.Bool.{eqb-true, leb-false, ltb-false, leb-true, both_ways, not-false, or_parts, and_parts}
+use Rattle.plural_regions.specs.declared.region.Region.{Region}
+use Rattle.plural_regions.specs.Bounds.{AllInside}
+use Rattle.plural_map_text.specs.declared.line.MapLine.{MapLine}
+use Rattle.plural_map_text.specs.declared.line.MapLine.TheVariants as line
+use Rattle.plural_map_text.specs.declared.line.TaskKind.{TaskKind}
+use Rattle.plural_map_text.specs.declared.line.TaskKind.TheVariants as kind
+use Rattle.plural_map.specs.declared.outcome.Dep.{Dep}
+use Rattle.plural_map.specs.Value.{TaskValue, with_dep, with_region}
+use Rattle.plural_map.specs.Limits.{IsMap, is_set_count}
+use Rattle.plural_map.specs.Order.{IsDeclaredInOrder}
+use Rattle.plural_map_text.specs.RegionOf.{region_of}
+use Rattle.plural_map_text.specs.Parts.{Parts, tasks_of, with_line, nothing, whole, quota_of, is_dup}
+use Rattle.plural_map.specs.Lookup.{number_of, has_task}
+use Rattle.plural_map_text.specs.Rules.{has, has_dep, task_count, instance_count, is_between, is_out_of_place, is_out_of_range, is_misnamed, is_too_many, IsInsideAt}
+use Rattle.plural_map_text.proofs.Kept.{IsDeclared, task_from_declared, dep_added, region_added, length_all, quotas_all, names_all, declared_all, new_name_all, number_below}
+use Rattle.plural_map.proofs.Declared.{declared_order, among_range}
+
+-- ---- numbers
+
+-- A number that is there and between two lies between them, whatever stands for none.
+pub between : (low high : ℕ) (n : Option ℕ) (d : ℕ) → is_between low high n ≡ true → (low ≤ unwrap_or n d) × (unwrap_or n d ≤ high)
+between low high None d e = absurd cc
+between low high (Some n) d e = (leb-true low n (and_parts (nat_le low n) (nat_le n high) e).0, leb-true n high (and_parts (nat_le low n) (nat_le n high) e).1)
+
+-- ---- what is kept
+
+-- A memory of version 1.
+pub record IsWords (words : ℕ) : Type 0 where
+  pub low : 8 ≤ words
+  pub high : words ≤ 65536
+  pub even : words % 8 ≡ 0
+
+-- A cache's shape.
+pub record IsShape (sets ways : ℕ) : Type 0 where
+  pub known : is_set_count sets ≡ true
+  pub low : 1 ≤ ways
+  pub high : ways ≤ 4
+
+-- What holds of the parts that n lines without a fault spell.
+pub record IsKept (n : ℕ) (p : Parts) : Type 0 where
+  pub words : 1 ≤ n → IsWords p.words
+  pub shape : 2 ≤ n → IsShape p.sets p.ways
+  pub no_earlier : n < 2 → p.earlier ≡ []
+  pub no_current : n < 2 → p.current ≡ None
+  pub few : task_count p ≤ 64
+  pub quotas : instance_count p ≤ 65536
+  pub names : AllPairs (λ t u. t.name ≢ u.name) p.earlier
+  pub new_name : MatchOption p.current ⊤ (λ t. All (λ e. e.name ≢ t.name) p.earlier)
+  pub earlier : (i : ℕ) (d : TaskValue) → i < length p.earlier → IsDeclared p.words i (get_or p.earlier i d)
+  pub current : MatchOption p.current ⊤ (IsDeclared p.words (length p.earlier))
+
+pub kept_nothing : IsKept 0 nothing
+kept_nothing = record {
+  words = λ h. absurd (omega arith);
+  shape = λ h. absurd (omega arith);
+  no_earlier = λ h. refl;
+  no_current = λ h. refl;
+  few = omega arith;
+  quotas = omega arith;
+  names = λ i j d l h. absurd (omega arith);
+  new_name = tt;
+  earlier = λ i d h. absurd (omega arith);
+  current = tt;
+}
+
+-- ---- line by line
+
+abbrev one : TaskValue → ℕ
+one t = 1
+
+kept_memory : (n : ℕ) (p : Parts) (w : Option ℕ) → IsKept n p → is_out_of_place n p (line.Memory w) ≡ false → is_out_of_range (line.Memory w) ≡ false → IsKept (n + 1) (with_line p (line.Memory w))
+kept_memory n p w k place range =
+    let z : n ≡ 0 = eqb-true n 0 (not-false (n == 0) place) in
+    let t = not-false (is_between 8 65536 w && unwrap_or w 0 % 8 == 0) range in
+    let b = between 8 65536 w 0 (and_parts (is_between 8 65536 w) (unwrap_or w 0 % 8 == 0) t).0 in
+    let none : p.earlier ≡ [] = k.no_earlier (omega arith) in
+    let nil : length p.earlier ≡ 0 = ap length none in
+    record {
+      words = λ h. record { low = b.0; high = b.1; even = eqb-true (unwrap_or w 0 % 8) 0 (and_parts (is_between 8 65536 w) (unwrap_or w 0 % 8 == 0) t).1 };
+      shape = λ h. absurd (omega arith);
+      no_earlier = λ h. none;
+      no_current = λ h. k.no_current (omega arith);
+      few = k.few;
+      quotas = k.quotas;
+      names = k.names;
+      new_name = k.new_name;
+      earlier = λ i d h. absurd (omega arith);
+      current = rw (k.no_current (omega arith)) tt;
+    }
+
+kept_cache : (n : ℕ) (p : Parts) (s w : Option ℕ) → IsKept n p → is_out_of_place n p (line.Cache s w) ≡ false → is_out_of_range (line.Cache s w) ≡ false → IsKept (n + 1) (with_line p (line.Cache s w))
+kept_cache n p s w k place range =
+    let z : n ≡ 1 = eqb-true n 1 (not-false (n == 1) place) in
+    let t = not-false (option_map_or is_set_count s false && is_between 1 4 w) range in
+    let b = between 1 4 w 0 (and_parts (option_map_or is_set_count s false) (is_between 1 4 w) t).1 in
+    record {
+      words = λ h. k.words (omega arith);
+      shape = λ h. record { known = sets_there s (and_parts (option_map_or is_set_count s false) (is_between 1 4 w) t).0; low = b.0; high = b.1 };
+      no_earlier = λ h. absurd (omega arith);
+      no_current = λ h. absurd (omega arith);
+      few = k.few;
+      quotas = k.quotas;
+      names = k.names;
+      new_name = k.new_name;
+      earlier = k.earlier;
+      current = k.current;
+    }
+  where
+    sets_there : (s : Option ℕ) → option_map_or is_set_count s false ≡ true → is_set_count (unwrap_or s 0) ≡ true
+    sets_there None e = absurd cc
+    sets_there (Some s) e = e
+
+-- A regular task has one instance.
+regular_one : (k : TaskKind) → is_dup k ≡ false → unwrap_or (quota_of k) 0 ≡ 1
+regular_one kind.Regular e = refl
+regular_one (kind.Dup q) e = absurd cc
+
+kept_task : (labels : List (List ℕ)) (n : ℕ) (p : Parts) (name : List ℕ) (tk : TaskKind) (entry : List ℕ) (budget : Option ℕ) → IsKept n p → is_out_of_place n p (line.Task name tk entry budget) ≡ false
+    → is_out_of_range (line.Task name tk entry budget) ≡ false → is_misnamed labels p (line.Task name tk entry budget) ≡ false → is_too_many p (line.Task name tk entry budget) ≡ false → IsKept (n + 1) (with_line p (line.Task name tk entry budget))
+kept_task labels n p name tk entry budget k place range misnamed many =
+    let low : 2 ≤ n = ltb-false n 2 place in
+    let t = not-false (is_between 1 16384 (quota_of tk) && is_between 1 100000000 budget) range in
+    let q = between 1 16384 (quota_of tk) 0 (and_parts (is_between 1 16384 (quota_of tk)) (is_between 1 100000000 budget) t).0 in
+    let b = between 1 100000000 budget 0 (and_parts (is_between 1 16384 (quota_of tk)) (is_between 1 100000000 budget) t).1 in
+    let here = option_map_or (λ (t : TaskValue). bytes_eq t.name name) p.current false in
+    let new = (or_parts (has_task p.earlier name || here) (not (has labels entry)) misnamed).0 in
+    record {
+      words = λ h. k.words (omega arith);
+      shape = λ h. k.shape (omega arith);
+      no_earlier = λ h. absurd (omega arith);
+      no_current = λ h. absurd (omega arith);
+      few = omega (arith, length_all p.earlier p.current, leb-false 64 (task_count p) (or_parts (nat_le 64 (task_count p)) (nat_lt 65536 (instance_count p + unwrap_or (quota_of tk) 0)) many).0);
+      quotas = omega (arith, quotas_all p.earlier p.current, ltb-false 65536 (instance_count p + unwrap_or (quota_of tk) 0) (or_parts (nat_le 64 (task_count p)) (nat_lt 65536 (instance_count p + unwrap_or (quota_of tk) 0)) many).1);
+      names = names_all p.earlier p.current k.names k.new_name;
+      new_name = new_name_all name p.earlier p.current (or_parts (has_task p.earlier name) here new).0 (or_parts (has_task p.earlier name) here new).1;
+      earlier = declared_all p.words p.earlier p.current k.earlier k.current;
+      current = record {
+        quota_low = q.0;
+        quota_high = q.1;
+        regular = regular_one tk;
+        budget_low = b.0;
+        budget_high = b.1;
+        few_deps = omega arith;
+        before = λ i d h. absurd (omega arith);
+        deps_differ = λ i j d l h. absurd (omega arith);
+        few_regions = omega arith;
+        inside = λ i a h m. absurd (both_ways false refl m);
+      };
+    }
+
+kept_after : (labels : List (List ℕ)) (n : ℕ) (p : Parts) (name : List ℕ) (when : _) → IsKept n p → is_out_of_place n p (line.After name when) ≡ false → is_misnamed labels p (line.After name when) ≡ false → is_too_many p (line.After name when) ≡ false
+    → IsKept (n + 1) (with_line p (line.After name when))
+kept_after labels n p name when k place misnamed many =
+    let low : 2 ≤ n = ltb-false n 2 (or_parts (nat_lt n 2) (is_none p.current) place).0 in
+    let number = number_of name p.earlier in
+    let named : has_task p.earlier name ≡ true = not-false (has_task p.earlier name) (or_parts (not (has_task p.earlier name)) (option_map_or (has_dep number) p.current false) misnamed).0 in
+    let new = (or_parts (not (has_task p.earlier name)) (option_map_or (has_dep number) p.current false) misnamed).1 in
+    record {
+      words = λ h. k.words (omega arith);
+      shape = λ h. k.shape (omega arith);
+      no_earlier = λ h. absurd (omega arith);
+      no_current = λ h. absurd (omega arith);
+      few = subst (λ (c : ℕ). length p.earlier + c ≤ 64) (same_one p.current) k.few;
+      quotas = subst (λ (c : ℕ). sum (map (λ (t : TaskValue). t.quota) p.earlier) + c ≤ 65536) (same_quota p.current) k.quotas;
+      names = k.names;
+      new_name = same_name p.current k.new_name;
+      earlier = k.earlier;
+      current = more p.current k.current new many (number_below name p.earlier named);
+    }
+  where
+    dep : Dep
+    dep = record { task = number_of name p.earlier; when = when }
+
+    same_one : (o : Option TaskValue) → option_map_or one o 0 ≡ option_map_or one (option_map (with_dep dep) o) 0
+    same_one None = refl
+    same_one (Some t) = refl
+
+    same_quota : (o : Option TaskValue) → option_map_or (λ (t : TaskValue). t.quota) o 0 ≡ option_map_or (λ (t : TaskValue). t.quota) (option_map (with_dep dep) o) 0
+    same_quota None = refl
+    same_quota (Some t) = refl
+
+    same_name : (o : Option TaskValue) → MatchOption o ⊤ (λ t. All (λ e. e.name ≢ t.name) p.earlier) → MatchOption (option_map (with_dep dep) o) ⊤ (λ t. All (λ e. e.name ≢ t.name) p.earlier)
+    same_name None h = tt
+    same_name (Some t) h = h
+
+    more : (o : Option TaskValue) → MatchOption o ⊤ (IsDeclared p.words (length p.earlier)) → option_map_or (has_dep (number_of name p.earlier)) o false ≡ false → option_map_or (λ (t : TaskValue). nat_le 16 (length t.deps)) o false ≡ false
+        → number_of name p.earlier < length p.earlier → MatchOption (option_map (with_dep dep) o) ⊤ (IsDeclared p.words (length p.earlier))
+    more None d new room l = tt
+    more (Some t) d new room l = dep_added p.words (length p.earlier) t (number_of name p.earlier) when d l new room
+
+kept_region : (n : ℕ) (p : Parts) (mode : _) (base stride count : Option ℕ) → IsKept n p → is_out_of_place n p (line.Region mode base stride count) ≡ false → is_too_many p (line.Region mode base stride count) ≡ false
+    → IsInsideAt p (line.Region mode base stride count) → IsKept (n + 1) (with_line p (line.Region mode base stride count))
+kept_region n p mode base stride count k place many inside =
+    let low : 2 ≤ n = ltb-false n 2 (or_parts (nat_lt n 2) (is_none p.current) place).0 in
+    record {
+      words = λ h. k.words (omega arith);
+      shape = λ h. k.shape (omega arith);
+      no_earlier = λ h. absurd (omega arith);
+      no_current = λ h. absurd (omega arith);
+      few = subst (λ (c : ℕ). length p.earlier + c ≤ 64) (same_one p.current) k.few;
+      quotas = subst (λ (c : ℕ). sum (map (λ (t : TaskValue). t.quota) p.earlier) + c ≤ 65536) (same_quota p.current) k.quotas;
+      names = k.names;
+      new_name = same_name p.current k.new_name;
+      earlier = k.earlier;
+      current = more p.current k.current many inside;
+    }
+  where
+    region : Region
+    region = region_of mode base stride count
+
+    same_one : (o : Option TaskValue) → option_map_or one o 0 ≡ option_map_or one (option_map (with_region region) o) 0
+    same_one None = refl
+    same_one (Some t) = refl
+
+    same_quota : (o : Option TaskValue) → option_map_or (λ (t : TaskValue). t.quota) o 0 ≡ option_map_or (λ (t : TaskValue). t.quota) (option_map (with_region region) o) 0
+    same_quota None = refl
+    same_quota (Some t) = refl
+
+    same_name : (o : Option TaskValue) → MatchOption o ⊤ (λ t. All (λ e. e.name ≢ t.name) p.earlier) → MatchOption (option_map (with_region region) o) ⊤ (λ t. All (λ e. e.name ≢ t.name) p.earlier)
+    same_name None h = tt
+    same_name (Some t) h = h
+
+    more : (o : Option TaskValue) → MatchOption o ⊤ (IsDeclared p.words (length p.earlier)) → option_map_or (λ (t : TaskValue). nat_le 8 (length t.regions)) o false ≡ false
+        → MatchOption o ⊤ (λ t. AllInside region t.quota p.words) → MatchOption (option_map (with_region region) o) ⊤ (IsDeclared p.words (length p.earlier))
+    more None d room i = tt
+    more (Some t) d room i = region_added p.words (length p.earlier) t region d i room
+
+kept_end : (n : ℕ) (p : Parts) → IsKept n p → is_out_of_place n p line.End ≡ false → IsKept (n + 1) p
+kept_end n p k place =
+    let low : 2 ≤ n = ltb-false n 2 place in
+    record {
+      words = λ h. k.words (omega arith);
+      shape = λ h. k.shape (omega arith);
+      no_earlier = λ h. absurd (omega arith);
+      no_current = λ h. absurd (omega arith);
+      few = k.few;
+      quotas = k.quotas;
+      names = k.names;
+      new_name = k.new_name;
+      earlier = k.earlier;
+      current = k.current;
+    }
+
+-- One more line without a fault keeps the limits.
+pub kept_more : (labels : List (List ℕ)) (n : ℕ) (p : Parts) (s : MapLine) → IsKept n p → is_out_of_place n p s ≡ false → is_out_of_range s ≡ false → is_misnamed labels p s ≡ false → is_too_many p s ≡ false → IsInsideAt p s
+    → IsKept (n + 1) (with_line p s)
+kept_more labels n p (line.Memory w) k a b c d i = kept_memory n p w k a b
+kept_more labels n p (line.Cache s w) k a b c d i = kept_cache n p s w k a b
+kept_more labels n p (line.Task name tk entry budget) k a b c d i = kept_task labels n p name tk entry budget k a b c d
+kept_more labels n p (line.After name when) k a b c d i = kept_after labels n p name when k a c d
+kept_more labels n p (line.Region mode base stride count) k a b c d i = kept_region n p mode base stride count k a d i
+kept_more labels n p line.End k a b c d i = kept_end n p k a
+
+-- ---- the whole map
+
+-- The tasks of kept parts depend on tasks of lesser numbers alone.
+pub kept_in_order : (n : ℕ) (p : Parts) → IsKept n p → IsDeclaredInOrder (tasks_of p)
+kept_in_order n p k t d h = (declared_all p.words p.earlier p.current k.earlier k.current t d h).before
+
+-- The map of a whole section is within all limits.
+pub kept_map : (n : ℕ) (p : Parts) → IsKept n p → 2 ≤ n → IsMap (whole p)
+kept_map n p k h =
+    let w = k.words (omega arith) in
+    let s = k.shape h in
+    record {
+      words_low = w.low;
+      words_high = omega (arith, w.high);
+      words_whole = w.even;
+      sets = s.known;
+      ways_low = s.low;
+      ways_high = s.high;
+      few_tasks = omega (arith, length_all p.earlier p.current, k.few);
+      few_instances = omega (arith, quotas_all p.earlier p.current, k.quotas);
+      names_differ = names_all p.earlier p.current k.names k.new_name;
+      each = λ i d l. task_from_declared p.words i (tasks_of p) (get_or (tasks_of p) i d) l (declared_all p.words p.earlier p.current k.earlier k.current i d l);
+      ordered = refl;
+      reaches = λ t l. rw (declared_order (tasks_of p) (kept_in_order n p k)) (among_range 0 (length (tasks_of p)) t (omega arith) (omega arith));
+    }

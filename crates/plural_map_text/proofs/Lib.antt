@@ -1,0 +1,4 @@
+pub mod Kept
+pub mod Keeps
+pub mod Verdicts
+pub mod Reading

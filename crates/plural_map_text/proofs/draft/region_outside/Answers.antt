@@ -1,0 +1,4 @@
+use Rattle.plural_map_text.proofs.draft.region_outside.Goals as goal
+
+pub returns-in-Ok : goal.returns-in-Ok
+returns-in-Ok c = rw c.in-Some.is (rw c.quota.ensures at c.in-Ok.ensures.inside)

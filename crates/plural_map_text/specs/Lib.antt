@@ -1,0 +1,15 @@
+pub use Rattle.plural_bytes.specs.Lines
+pub use Rattle.plural_bytes.specs.Spelled
+pub use Rattle.plural_bytes.specs.Faults
+pub use Rattle.plural_regions.specs.Rights
+pub use Rattle.plural_regions.specs.Bounds
+pub use Rattle.plural_map.specs.Value
+pub use Rattle.plural_map.specs.Lookup
+pub use Rattle.plural_map.specs.Order
+pub use Rattle.plural_map.specs.Limits
+pub mod Shape
+pub mod RegionOf
+pub mod Parts
+pub mod Rules
+pub mod Drafts
+pub mod Print

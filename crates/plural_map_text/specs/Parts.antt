@@ -1,0 +1,70 @@
+-- The map that map lines spell.
+use Rattle.std.specs.Prelude.{ℕ, Bool, true, false, List, [], ◌∷◌, ◌++◌, Option, Some, None, fold, unwrap_or, option_map}
+use Rattle.std.specs.Option.{option_map_or, option_to_list}
+use Rattle.plural_bytes.specs.Lines.{TextLine}
+use Rattle.plural_regions.specs.declared.region.Region.{Region}
+use Rattle.plural_map_text.specs.declared.line.MapLine.{MapLine}
+use Rattle.plural_map_text.specs.declared.line.MapLine.TheVariants as line
+use Rattle.plural_map_text.specs.declared.line.TaskKind.{TaskKind}
+use Rattle.plural_map_text.specs.declared.line.TaskKind.TheVariants as kind
+use Rattle.plural_map.specs.declared.outcome.Dep.{Dep}
+use Rattle.plural_map.specs.Value.{TaskValue, MapValue, with_dep, with_region}
+use Rattle.plural_map.specs.Lookup.{number_of}
+use Rattle.plural_map_text.specs.Shape.{shape_of}
+use Rattle.plural_map_text.specs.RegionOf.{region_of}
+use Rattle.plural_map.specs.Order.{order_of}
+
+-- What lines spell so far: the memory's words, the caches' shape, the task that lines belong to now, and those
+-- declared before it.
+pub record Parts : Type 0 where
+  pub words : ℕ
+  pub sets : ℕ
+  pub ways : ℕ
+  pub earlier : List TaskValue
+  pub current : Option TaskValue
+
+-- All tasks so far, in the order of their declaration.
+abbrev pub tasks_of : Parts → List TaskValue
+tasks_of p = p.earlier ++ option_to_list p.current
+
+-- The number of instances that a task line gives: one for a regular task.
+abbrev pub quota_of : TaskKind → Option ℕ
+quota_of kind.Regular = Some 1
+quota_of (kind.Dup quota) = quota
+
+-- The line is that of a duplicable task.
+abbrev pub is_dup : TaskKind → Bool
+is_dup kind.Regular = false
+is_dup (kind.Dup quota) = true
+
+-- The parts after one more line. `after`, `read` and `write` belong to the current task.
+abbrev pub with_line : Parts → MapLine → Parts
+with_line p (line.Memory words) = record p { words = unwrap_or words 0 }
+with_line p (line.Cache sets ways) = record p { sets = unwrap_or sets 0; ways = unwrap_or ways 0 }
+with_line p (line.Task name kind entry budget) = record p {
+  earlier = tasks_of p;
+  current = Some (record { name = name; dup = is_dup kind; quota = unwrap_or (quota_of kind) 0; entry = entry; budget = unwrap_or budget 0; some = false; deps = []; regions = [] });
+}
+with_line p (line.After name when) = record p { current = option_map (with_dep (record { task = number_of name p.earlier; when = when })) p.current }
+with_line p (line.Region mode base stride count) = record p { current = option_map (with_region (region_of mode base stride count)) p.current }
+with_line p line.End = p
+
+-- The parts after one more text line; one without a shape changes nothing.
+abbrev pub with_text : Parts → TextLine → Parts
+with_text p l = option_map_or (with_line p) (shape_of l.1) p
+
+-- The parts before any line.
+abbrev pub nothing : Parts
+nothing = record { words = 0; sets = 0; ways = 0; earlier = []; current = None }
+
+-- The parts that lines spell.
+abbrev pub parts_of : List TextLine → Parts
+parts_of lines = fold with_text nothing lines
+
+-- The map of parts, its tasks in the order of `Order`.
+abbrev pub whole : Parts → MapValue
+whole p = record { words = p.words; sets = p.sets; ways = p.ways; tasks = tasks_of p; order = order_of (tasks_of p) }
+
+-- The map that lines spell.
+abbrev pub map_of : List TextLine → MapValue
+map_of lines = whole (parts_of lines)

@@ -1,0 +1,349 @@
+//! The map so far, and whether a line fits behind it.
+ghost use Rattle.std.specs.Prelude.{◌≡◌, ℕ, ◌+◌, ◌-◌, ◌%◌, ◌<◌, ◌≤◌, List, length, map, sum, bytes_eq, IfNone, OnOk, MatchOption, true, false, ◌==◌, position, nat_le, ⊤, Some, [], option_map};
+ghost use Rattle.std.specs.List.{list_any};
+ghost use Rattle.std.specs.Option.{option_map_or};
+ghost use Rattle.plural_regions.specs.Bounds.{AllInside, IsLeastOutside};
+ghost use Rattle.plural_map_text.specs.declared.fault.MapKind.{MapKind};
+ghost use Rattle.plural_map.specs.Limits.{is_set_count};
+ghost use Rattle.plural_map_text.specs.RegionOf.{region_of};
+ghost use Rattle.plural_map_text.specs.Parts.{quota_of, is_dup, with_line, tasks_of};
+ghost use Rattle.plural_map.specs.Lookup.{number_of, has_task};
+ghost use Rattle.plural_map.specs.Value.{with_dep, with_region};
+ghost use Rattle.plural_map_text.specs.Rules.{has, has_dep, is_between, is_out_of_place, is_out_of_range, is_misnamed, is_too_many, IsOutsideAt, IsInsideAt, IsVerdict, task_count, instance_count};
+ghost use Rattle.plural_map_text.specs.Drafts.{draft_parts};
+
+use crate::counts::is_between;
+use crate::fault::MapKind;
+use crate::line::{MapLine, TaskKind};
+use arrayvec::ArrayVec;
+use plural_bytes::Name;
+use plural_map::{Dep, Task, has_task, number_of};
+use plural_regions::{Mode, Region};
+use std::alloc::AllocFailed;
+
+/// The parts of a map that the lines so far spell.
+#[derive(Drop)]
+pub(crate) struct Draft {
+    pub words: u32,
+    pub sets: u32,
+    pub ways: u32,
+    /// The tasks before the current one.
+    pub earlier: Vec<Task>,
+    /// The task that `after`, `read` and `write` lines belong to.
+    pub current: Option<Task>,
+}
+
+fn has(list: &[Name], name: &Name) -> bool
+    ensures { result ≡ has list.now name.now }
+{
+    list.iter().any(|x| x == name)
+}
+
+fn quota_sum(tasks: &[Task]) -> u64
+    requires { length tasks.now ≤ 256 }
+    ensures { result ≡ sum (map (λ t. t.quota) tasks.now) }
+{
+    tasks.iter().map(|t| u64::from(t.quota())).sum()
+}
+
+fn quota_of(kind: TaskKind) -> Option<u32>
+    ensures { result ≡ quota_of kind }
+{
+    match kind {
+        TaskKind::Regular => Some(1),
+        TaskKind::Dup { quota } => quota,
+    }
+}
+
+fn is_dup(kind: TaskKind) -> bool
+    ensures { result ≡ is_dup kind }
+{
+    matches!(kind, TaskKind::Dup { .. })
+}
+
+fn is_set_count(sets: u32) -> bool
+    ensures { result ≡ is_set_count sets }
+{
+    matches!(sets, 1 | 2 | 4 | 8 | 16 | 32 | 64)
+}
+
+fn is_out_of_place(n: usize, draft: &Draft, line: &MapLine) -> bool
+    ensures { result ≡ is_out_of_place n (draft_parts draft.now) line.now }
+{
+    match line {
+        MapLine::Memory { .. } => n != 0,
+        MapLine::Cache { .. } => n != 1,
+        MapLine::Task { .. } | MapLine::End => n < 2,
+        MapLine::After { .. } | MapLine::Region { .. } => n < 2 || draft.current.is_none(),
+    }
+}
+
+fn is_out_of_range(line: &MapLine) -> bool
+    ensures { result ≡ is_out_of_range line.now }
+{
+    match *line {
+        MapLine::Memory { words } => {
+            !(is_between(8, 65_536, words) && words.unwrap_or(0) % 8 == 0)
+        }
+        MapLine::Cache { sets, ways } => {
+            !(is_set_count(sets.unwrap_or(0)) && is_between(1, 4, ways))
+        }
+        MapLine::Task { kind, budget, .. } => {
+            !(is_between(1, 16_384, quota_of(kind)) && is_between(1, 100_000_000, budget))
+        }
+        MapLine::Region {
+            base,
+            stride,
+            count,
+            ..
+        } => {
+            !(is_between(0, 65_535, base)
+                && is_between(0, 65_535, stride)
+                && is_between(1, 65_536, count))
+        }
+        MapLine::After { .. } | MapLine::End => false,
+    }
+}
+
+fn has_dep(task: &Task, number: usize) -> bool
+    ensures { result ≡ has_dep number task.now }
+{
+    task.deps().iter().any(|d| d.task as usize == number)
+}
+
+fn is_misnamed(labels: &[Name], draft: &Draft, line: &MapLine) -> bool
+    ensures { result ≡ is_misnamed labels.now (draft_parts draft.now) line.now }
+{
+    match line {
+        MapLine::Task { name, entry, .. } => {
+            has_task(&draft.earlier, name) || names_current(draft, name) || !has(labels, entry)
+        }
+        MapLine::After { name, .. } => {
+            !has_task(&draft.earlier, name)
+                || current_has_dep(draft, number_of(&draft.earlier, name))
+        }
+        MapLine::Memory { .. } | MapLine::Cache { .. } | MapLine::Region { .. } | MapLine::End =>
+            false,
+    }
+}
+
+fn names_current(draft: &Draft, name: &Name) -> bool
+    ensures { result ≡ option_map_or (λ t. bytes_eq t.name name.now) draft.now.current false }
+{
+    match &draft.current {
+        None => false,
+        Some(task) => task.name() == name,
+    }
+}
+
+fn current_has_dep(draft: &Draft, number: usize) -> bool
+    ensures { result ≡ option_map_or (has_dep number) draft.now.current false }
+{
+    match &draft.current {
+        None => false,
+        Some(task) => has_dep(task, number),
+    }
+}
+
+fn task_count(draft: &Draft) -> usize
+    requires { length draft.now.earlier.items ≤ 256 }
+    ensures { result ≡ task_count (draft_parts draft.now) }
+{
+    match &draft.current {
+        None => draft.earlier.len(),
+        Some(_) => draft.earlier.len() + 1,
+    }
+}
+
+fn instance_count(draft: &Draft) -> u64
+    requires few { length draft.now.earlier.items ≤ 256 }
+    requires quotas { instance_count (draft_parts draft.now) ≤ 65536 }
+    ensures { result ≡ instance_count (draft_parts draft.now) }
+{
+    let earlier = quota_sum(&draft.earlier);
+    match &draft.current {
+        None => earlier,
+        Some(task) => earlier + u64::from(task.quota()),
+    }
+}
+
+fn has_all_deps(draft: &Draft) -> bool
+    ensures { result ≡ option_map_or (λ t. nat_le 16 (length t.deps)) draft.now.current false }
+{
+    match &draft.current {
+        None => false,
+        Some(task) => task.deps().len() >= 16,
+    }
+}
+
+fn has_all_regions(draft: &Draft) -> bool
+    ensures { result ≡ option_map_or (λ t. nat_le 8 (length t.regions)) draft.now.current false }
+{
+    match &draft.current {
+        None => false,
+        Some(task) => task.regions().len() >= 8,
+    }
+}
+
+fn is_too_many(draft: &Draft, line: &MapLine) -> bool
+    requires few { length draft.now.earlier.items ≤ 256 }
+    requires quotas { instance_count (draft_parts draft.now) ≤ 65536 }
+    ensures { result ≡ is_too_many (draft_parts draft.now) line.now }
+{
+    match *line {
+        MapLine::Task { kind, .. } => {
+            task_count(draft) >= 64
+                || instance_count(draft) + u64::from(quota_of(kind).unwrap_or(0)) > 65_536
+        }
+        MapLine::After { .. } => has_all_deps(draft),
+        MapLine::Region { .. } => has_all_regions(draft),
+        MapLine::Memory { .. } | MapLine::Cache { .. } | MapLine::End => false,
+    }
+}
+
+fn region_of(mode: Mode, base: Option<u32>, stride: Option<u32>, count: Option<u32>) -> Region
+    requires base { is_between 0 65535 base ≡ true }
+    requires stride { is_between 0 65535 stride ≡ true }
+    requires count { is_between 1 65536 count ≡ true }
+    ensures { result ≡ region_of mode base stride count }
+{
+    Region {
+        mode,
+        base: base.unwrap_or(0),
+        stride: stride.unwrap_or(0),
+        count: count.unwrap_or(1),
+    }
+}
+
+fn region_outside(draft: &Draft, region: &Region) -> Option<u32>
+    ensures { MatchOption result
+        (MatchOption draft.now.current ⊤ (λ t. AllInside region.now t.quota draft.now.words))
+        (λ k. MatchOption draft.now.current ⊥ (λ t. IsLeastOutside region.now t.quota draft.now.words k)) }
+{
+    match &draft.current {
+        None => None,
+        Some(task) => match region.inside(task.quota(), draft.words) {
+            Ok(()) => None,
+            Err(outside) => Some(outside.k),
+        },
+    }
+}
+
+fn first_outside(draft: &Draft, line: &MapLine) -> Option<u32>
+    requires { is_out_of_range line.now ≡ false }
+    ensures { MatchOption result (IsInsideAt (draft_parts draft.now) line.now) (λ k. IsOutsideAt (draft_parts draft.now) line.now k) }
+{
+    match *line {
+        MapLine::Region {
+            mode,
+            base,
+            stride,
+            count,
+        } => {
+            let region = region_of(mode, base, stride, count);
+            region_outside(draft, &region)
+        }
+        _ => None,
+    }
+}
+
+/// The fault of a line of a shape, behind `n` lines that spell the draft.
+pub(crate) fn verdict(labels: &[Name], n: usize, draft: &Draft, line: &MapLine) -> Option<MapKind>
+    requires few { length draft.now.earlier.items ≤ 256 }
+    requires quotas { instance_count (draft_parts draft.now) ≤ 65536 }
+    ensures verdict { IsVerdict labels.now n (draft_parts draft.now) line.now result }
+    ensures inside { IfNone result (IsInsideAt (draft_parts draft.now) line.now) }
+{
+    if is_out_of_place(n, draft, line) {
+        return Some(MapKind::Form);
+    }
+    if is_out_of_range(line) {
+        return Some(MapKind::Number);
+    }
+    if is_misnamed(labels, draft, line) {
+        return Some(MapKind::Name);
+    }
+    if is_too_many(draft, line) {
+        return Some(MapKind::Count);
+    }
+    match first_outside(draft, line) {
+        Some(k) => Some(MapKind::Outside { k }),
+        None => None,
+    }
+}
+
+fn open_task(draft: &mut Draft, task: Task) -> Result<(), AllocFailed<Task>>
+    ensures { OnOk result (draft_parts draft.new ≡ record (draft_parts draft.old) { earlier = tasks_of (draft_parts draft.old); current = Some task }) }
+{
+    match draft.current.replace(task) {
+        None => Ok(()),
+        Some(before) => draft.earlier.push(before),
+    }
+}
+
+fn add_dep(draft: &mut Draft, dep: Dep)
+    requires { option_map_or (λ t. nat_le 16 (length t.deps)) draft.old.current false ≡ false }
+    ensures { draft_parts draft.new ≡ record (draft_parts draft.old) { current = option_map (with_dep dep) draft.old.current } }
+{
+    match &mut draft.current {
+        None => {}
+        Some(task) => task.add_dep(dep),
+    }
+}
+
+fn add_region(draft: &mut Draft, region: Region)
+    requires { option_map_or (λ t. nat_le 8 (length t.regions)) draft.old.current false ≡ false }
+    ensures { draft_parts draft.new ≡ record (draft_parts draft.old) { current = option_map (with_region region) draft.old.current } }
+{
+    match &mut draft.current {
+        None => {}
+        Some(task) => task.add_region(region),
+    }
+}
+
+/// Adds a line that has no fault.
+pub(crate) fn add(draft: &mut Draft, line: &MapLine) -> Result<(), AllocFailed<Task>>
+    requires range { is_out_of_range line.now ≡ false }
+    requires room { is_too_many (draft_parts draft.old) line.now ≡ false }
+    requires few { length draft.old.earlier.items ≤ 256 }
+    ensures { OnOk result (draft_parts draft.new ≡ with_line (draft_parts draft.old) line.now) }
+{
+    match *line {
+        MapLine::Memory { words } => {
+            draft.words = words.unwrap_or(0);
+            Ok(())
+        }
+        MapLine::Cache { sets, ways } => {
+            draft.sets = sets.unwrap_or(0);
+            draft.ways = ways.unwrap_or(0);
+            Ok(())
+        }
+        MapLine::Task {
+            name,
+            kind,
+            entry,
+            budget,
+        } => {
+            let (dup, quota) = (is_dup(kind), quota_of(kind).unwrap_or(0));
+            let budget = budget.unwrap_or(0);
+            let (deps, regions) = (ArrayVec::new(), ArrayVec::new());
+            let task = Task::of(name, dup, quota, entry, budget, false, deps, regions);
+            open_task(draft, task)
+        }
+        MapLine::After { name, when } => {
+            let task = number_of(&draft.earlier, &name) as u32;
+            add_dep(draft, Dep { task, when });
+            Ok(())
+        }
+        MapLine::Region {
+            mode,
+            base,
+            stride,
+            count,
+        } => {
+            add_region(draft, region_of(mode, base, stride, count));
+            Ok(())
+        }
+        MapLine::End => Ok(()),
+    }
+}
