@@ -1,10 +1,14 @@
 /* A plain interpreter of RV32IM with a switch loop, as a C programmer would write it: what `plural serial` is timed beside. It runs
-   the large filter bundle with the same checks: the nine traps, regions, budgets, a private cache with its misses, the counts
-   of each instance. Each word is decoded when it is fetched, as `plural` does.
+   the tasks of a map serially with the same checks: the nine traps, regions, budgets, a private cache with its misses, the
+   counts of each instance.
 
-   usage: interpreter CODE IMAGE BUDGET
-   CODE holds the kernels' words, little-endian; IMAGE the memory, a hexadecimal word a line; BUDGET is each task's. It writes
-   what the last instance of each task did, then how many instructions ran and the sum of the last memory. */
+   usage: interpreter CODE IMAGE MAP
+   CODE holds the kernels' words, little-endian. IMAGE is the memory, a hexadecimal word a line. MAP has the numbers of
+   words and of tasks; then for each task its quota, budget, numbers of dependencies and of regions, each dependency's task
+   and code (2 for any), and of each region whether it is written, base, stride and count. Each kernel ends with its one
+   ecall, and the kernels stand in the order of the tasks. It writes how many instructions ran and the sum of the last memory.
+
+   By default each word is decoded when it is fetched. With -DONCE the words are decoded once, before the run. */
 #include <stdint.h>
 #include <stdio.h>
 #include <stdlib.h>
@@ -20,7 +24,8 @@ static u32 words, code_words, code[16384];
 
 /* ---- task map ---- */
 typedef struct { int write; u32 base, stride, count; } Region;
-typedef struct { const char *name; u32 quota, entry, budget, regions; Region region[8]; } Task;
+typedef struct { u32 on, code; } Dep; /* code: 2 for any */
+typedef struct { u32 quota, entry, budget, deps, regions; Dep dep[16]; Region region[8]; } Task;
 typedef struct { u32 instructions, loads, misses, stores; int end; u32 trap_pc; } Record; /* end: code, 2 spent, 10 + cause */
 
 /* ---- cache: 16 sets, 2 ways, lines of 8 words, least recently loaded goes ---- */
@@ -87,6 +92,15 @@ static inline Instr decode(u32 w) {
     return i;
 }
 
+#ifdef ONCE
+static Instr decoded[16384];
+static inline Instr instr_at(u32 pc) { return decoded[pc / 4]; }
+static void decode_all(void) { for (u32 p = 0; p < code_words; p++) decoded[p] = decode(code[p]); }
+#else
+static inline Instr instr_at(u32 pc) { return decode(code[pc / 4]); }
+static void decode_all(void) {}
+#endif
+
 /* ---- one instance ---- */
 #define TRAP(cause) do { r.end = 10 + (cause); r.trap_pc = pc; return r; } while (0)
 static Record run(const Task *t, u32 k, Cache *cache) {
@@ -102,7 +116,7 @@ static Record run(const Task *t, u32 k, Cache *cache) {
     cache_empty(cache);
     for (;;) {
         if (pc / 4 >= code_words) TRAP(1);
-        Instr i = decode(code[pc / 4]);
+        Instr i = instr_at(pc);
         u32 a = x[i.rs1], b = x[i.rs2], v = 0, next = pc + 4, at = a + i.imm, size, raw, ok = 0;
         switch (i.op) {
         case LUI: v = i.imm; break;
@@ -174,47 +188,64 @@ static Record run(const Task *t, u32 k, Cache *cache) {
     }
 }
 
-/* ---- the large filter ---- */
-static u32 setup(const char *code_file, const char *image_file, u32 budget, Task *tasks) {
-    u32 n = 1024, taps = 16400, y = 16416, c = 2048, m = 32800, v;
-    Task map[6] = {
-        {"fir", n, 0, 10000, 3, {{0, 0, 16, 31}, {0, taps, 0, 16}, {1, y, 16, 16}}},
-        {"top", 8, 0, 100000, 2, {{0, y, c, c}, {1, m, 1, 1}}},
-        {"best", 1, 0, 1000, 3, {{0, m, 0, 8}, {0, m + 10, 0, 1}, {1, m + 8, 0, 1}}},
-        {"loud", 1, 0, 100, 1, {{1, m + 9, 0, 1}}},
-        {"quiet", 1, 0, 100, 1, {{1, m + 11, 0, 1}}},
-        {"done", 1, 0, 100, 3, {{0, m + 9, 0, 1}, {0, m + 11, 0, 1}, {1, m + 12, 0, 1}}}};
+/* ---- the whole run ---- */
+static u32 number(FILE *f) {
+    u32 n = 0;
+    if (fscanf(f, "%u", &n) != 1) exit(2);
+    return n;
+}
+
+static u32 read_map(FILE *f, Task *tasks) {
+    words = number(f);
+    u32 count = number(f);
+    for (u32 t = 0; t < count; t++) {
+        Task *it = &tasks[t];
+        it->quota = number(f), it->budget = number(f), it->deps = number(f), it->regions = number(f);
+        for (u32 d = 0; d < it->deps; d++) it->dep[d].on = number(f), it->dep[d].code = number(f);
+        for (u32 r = 0; r < it->regions; r++) {
+            Region *at = &it->region[r];
+            at->write = number(f), at->base = number(f), at->stride = number(f), at->count = number(f);
+        }
+    }
+    return count;
+}
+
+static void setup(const char *code_file, const char *image_file, Task *tasks, u32 count) {
     FILE *f = fopen(code_file, "rb"), *g = fopen(image_file, "r");
-    if (!f || !g) return 0;
-    words = 32816;
+    u32 v;
+    if (!f || !g) exit(2);
     code_words = fread(code, 4, 16384, f);
     mem = calloc(words, sizeof *mem);
     for (u32 a = 0; a < words && fscanf(g, "%x", &v) == 1; a++) mem[a] = v;
-    for (u32 p = 0, t = 1; t < 6; t++) { while (code[p] != 0x73) p++; map[t].entry = 4 * ++p; } /* each kernel ends with its one ecall */
-    for (u32 t = 0; t < 6; t++) map[t].budget = budget;
-    memcpy(tasks, map, sizeof map);
+    for (u32 p = 0, t = 1; t < count; t++) { while (code[p] != 0x73) p++; tasks[t].entry = 4 * ++p; }
+    decode_all();
+}
+
+/* Whether a task runs; no task fails here, since the run then ends. */
+static int runs(const Task *t, const int *end) {
+    for (u32 d = 0; d < t->deps; d++) if (t->dep[d].code < 2 && end[t->dep[d].on] != (int)t->dep[d].code) return 0;
     return 1;
 }
 
 int main(int argc, char **argv) {
     static Cache cache;
-    Task tasks[6];
-    if (argc != 4 || !setup(argv[1], argv[2], strtoul(argv[3], 0, 10), tasks)) return 2;
+    static Task tasks[64];
+    FILE *f;
+    if (argc != 4 || !(f = fopen(argv[3], "r"))) return 2;
+    u32 count = read_map(f, tasks), sum = 0;
     u64 total = 0;
-    int end[6] = {0};
-    for (u32 t = 0; t < 6; t++) {
-        if ((t == 3 && end[2] != 1) || (t == 4 && end[2] != 0)) continue;
+    int end[64] = {0};
+    setup(argv[1], argv[2], tasks, count);
+    for (u32 t = 0; t < count; t++) {
+        if (!runs(&tasks[t], end)) { end[t] = -1; continue; }
         for (u32 k = 0; k < tasks[t].quota; k++) {
             Record r = run(&tasks[t], k, &cache);
             total += r.instructions;
             if (r.end > end[t]) end[t] = r.end;
-            if (k + 1 == tasks[t].quota)
-                printf("%s %u end %d n %u loads %u misses %u stores %u\n", tasks[t].name, k, r.end, r.instructions, r.loads, r.misses, r.stores);
-            if (r.end > 2) { printf("trap %d pc %08x\n", r.end - 10, r.trap_pc); return 1; }
+            if (r.end > 1) { printf("task %u instance %u: end %d pc %08x\n", t, k, r.end, r.trap_pc); return 1; }
         }
     }
-    u32 sum = 0;
     for (u32 a = 0; a < words; a++) sum += mem[a];
-    printf("instructions %llu sum %u\n", (unsigned long long)total, sum);
+    printf("%llu %u\n", (unsigned long long)total, sum);
     return 0;
 }
