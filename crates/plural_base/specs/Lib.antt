@@ -2,3 +2,4 @@ pub mod Names
 pub mod NameFields
 pub mod NameBack
 pub mod Told
+pub mod CacheShape

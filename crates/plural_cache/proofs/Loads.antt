@@ -5,6 +5,7 @@ use Rattle.std.proofs.lemmas.Bool.Decides.{nat_tests}
 use Rattle.plural_cache.specs.declared.set.Line.{Line}
 use Rattle.plural_cache.specs.Miss.{is_in, without, hits, misses_of, present_after}
 use Rattle.plural_cache.specs.Lines.{keys, look, brought, front}
+use Rattle.plural_base.specs.Told.{Told}
 use Rattle.plural_cache.specs.Cache.{CacheValue, set_of, is_present, StandsFor, Agrees, IsCache, loaded}
 use Rattle.plural_cache.proofs.Misses.{Unique, hits_is, misses_more, present_other, present_hit, present_miss, present_unique}
 use Rattle.plural_cache.proofs.Orders.{bool_cases, keys-take, look_brought, front_brought, keys_brought}
@@ -35,7 +36,7 @@ look_take y (suc n) (l ∷ ls) P h =
 abbrev pub with_load : CacheValue → (a : ℕ) → List Line → CacheValue
 with_load c a ls = record c { held = set c.held (a / 8 % c.sets) ls; loads = c.loads + 1; misses = c.misses + cond (is_present c a) 0 1 }
 
-module _ (c : CacheValue) (ok : IsCache c) (a : ℕ) (new : List Line) (lawful : ℕ → Bool) (holds : List ℕ) where
+module _ (c : CacheValue) (ok : IsCache c) (a : ℕ) (new : List Line) (told : Told) where
   old : List Line
   old = set_of c (a / 8 % c.sets)
 
@@ -91,47 +92,47 @@ module _ (c : CacheValue) (ok : IsCache c) (a : ℕ) (new : List Line) (lawful :
       length_more (x ∷ h) a = let more = length_more h a in omega arith
 
   abbrev pub Filled : Type 0
-  Filled = is_present c a ≡ false → (w : ℕ) → w < 8 → lawful (8 * (a / 8) + w) ≡ true → get_or (front new) w 0 ≡ get_or holds (8 * (a / 8) + w) 0
+  Filled = is_present c a ≡ false → (w : ℕ) → w < 8 → told.lawful (8 * (a / 8) + w) ≡ true → get_or (front new) w 0 ≡ get_or told.words (8 * (a / 8) + w) 0
 
-  at_word : (ws : List ℕ) (b : ℕ) → get_or ws (b % 8) 0 ≡ get_or holds (8 * (b / 8) + b % 8) 0 → get_or ws (b % 8) 0 ≡ get_or holds b 0
-  at_word ws b e = e ∙ ap (λ i. get_or holds i 0) (whole_word b)
+  at_word : (ws : List ℕ) (b : ℕ) → get_or ws (b % 8) 0 ≡ get_or told.words (8 * (b / 8) + b % 8) 0 → get_or ws (b % 8) 0 ≡ get_or told.words b 0
+  at_word ws b e = e ∙ ap (λ i. get_or told.words i 0) (whole_word b)
 
-  filled_at : Filled → is_present c a ≡ false → (b : ℕ) → b / 8 ≡ a / 8 → lawful b ≡ true → get_or (front new) (b % 8) 0 ≡ get_or holds b 0
+  filled_at : Filled → is_present c a ≡ false → (b : ℕ) → b / 8 ≡ a / 8 → told.lawful b ≡ true → get_or (front new) (b % 8) 0 ≡ get_or told.words b 0
   filled_at f p b e l =
       at_word (front new) b
-      (subst (λ x. get_or (front new) (b % 8) 0 ≡ get_or holds (8 * x + b % 8) 0) (sym e)
-      (f p (b % 8) (omega arith) (ap (λ x. lawful (8 * x + b % 8)) (sym e) ∙ ap lawful (whole_word b) ∙ l)))
+      (subst (λ x. get_or (front new) (b % 8) 0 ≡ get_or told.words (8 * x + b % 8) 0) (sym e)
+      (f p (b % 8) (omega arith) (ap (λ x. told.lawful (8 * x + b % 8)) (sym e) ∙ ap told.lawful (whole_word b) ∙ l)))
 
-  pub loaded_value : Order → Filled → Agrees c lawful holds → lawful a ≡ true → get_or (front new) (a % 8) 0 ≡ get_or holds a 0
+  pub loaded_value : Order → Filled → Agrees c told → told.lawful a ≡ true → get_or (front new) (a % 8) 0 ≡ get_or told.words a 0
   loaded_value o f g l =
       ⊎_elim
       (λ t.
       let ls = set_of c (a / 8 % c.sets) in
-      let shown = subst (λ (k : Option (List ℕ)). IfSome k (λ ws. get_or ws (a % 8) 0 ≡ get_or holds a 0)) (front_brought (a / 8) ls t) (g.same a l) in
+      let shown = subst (λ (k : Option (List ℕ)). IfSome k (λ ws. get_or ws (a % 8) 0 ≡ get_or told.words a 0)) (front_brought (a / 8) ls t) (g.same a l) in
       ap (λ (ls : List Line). get_or (front ls) (a % 8) 0) (new_hit o t) ∙ shown)
       (λ n. filled_at f n a refl l)
       (bool_cases (is_present c a))
 
   abbrev pub shows : List Line → ℕ → Type 0
-  shows ls b = IfSome (look (b / 8) ls) (λ ws. get_or ws (b % 8) 0 ≡ get_or holds b 0)
+  shows ls b = IfSome (look (b / 8) ls) (λ ws. get_or ws (b % 8) 0 ≡ get_or told.words b 0)
 
-  miss_shows : Filled → is_present c a ≡ false → (b : ℕ) → lawful b ≡ true → shows (set_of c (a / 8 % c.sets)) b → shows (record { line = a / 8; words = front new } ∷ take (c.ways - 1) (set_of c (a / 8 % c.sets))) b
+  miss_shows : Filled → is_present c a ≡ false → (b : ℕ) → told.lawful b ≡ true → shows (set_of c (a / 8 % c.sets)) b → shows (record { line = a / 8; words = front new } ∷ take (c.ways - 1) (set_of c (a / 8 % c.sets))) b
   miss_shows f p b l h =
       ⊎_elim
-      (λ e. subst (λ t. IfSome (cond t (Some (front new)) (look (b / 8) (take (c.ways - 1) (set_of c (a / 8 % c.sets))))) (λ ws. get_or ws (b % 8) 0 ≡ get_or holds b 0)) (sym e)
+      (λ e. subst (λ t. IfSome (cond t (Some (front new)) (look (b / 8) (take (c.ways - 1) (set_of c (a / 8 % c.sets))))) (λ ws. get_or ws (b % 8) 0 ≡ get_or told.words b 0)) (sym e)
       (filled_at f p b (sym (eqb-true (a / 8) (b / 8) e)) l))
-      (λ e. subst (λ t. IfSome (cond t (Some (front new)) (look (b / 8) (take (c.ways - 1) (set_of c (a / 8 % c.sets))))) (λ ws. get_or ws (b % 8) 0 ≡ get_or holds b 0)) (sym e)
+      (λ e. subst (λ t. IfSome (cond t (Some (front new)) (look (b / 8) (take (c.ways - 1) (set_of c (a / 8 % c.sets))))) (λ ws. get_or ws (b % 8) 0 ≡ get_or told.words b 0)) (sym e)
       (look_take (b / 8) (c.ways - 1) (set_of c (a / 8 % c.sets)) _ h))
       (bool_cases (eqb (a / 8) (b / 8)))
 
-  own_shows : Order → Filled → (b : ℕ) → lawful b ≡ true → shows (set_of c (a / 8 % c.sets)) b → shows new b
+  own_shows : Order → Filled → (b : ℕ) → told.lawful b ≡ true → shows (set_of c (a / 8 % c.sets)) b → shows new b
   own_shows o f b l h =
       ⊎_elim
-      (λ t. subst (λ (k : Option (List ℕ)). IfSome k (λ ws. get_or ws (b % 8) 0 ≡ get_or holds b 0)) (sym (ap (look (b / 8)) (new_hit o t) ∙ look_brought (a / 8) (b / 8) (set_of c (a / 8 % c.sets)) t)) h)
+      (λ t. subst (λ (k : Option (List ℕ)). IfSome k (λ ws. get_or ws (b % 8) 0 ≡ get_or told.words b 0)) (sym (ap (look (b / 8)) (new_hit o t) ∙ look_brought (a / 8) (b / 8) (set_of c (a / 8 % c.sets)) t)) h)
       (λ n. subst (λ (ls : List Line). shows ls b) (sym (new_miss o n)) (miss_shows f n b l h))
       (bool_cases (is_present c a))
 
-  pub still_agrees : Order → Filled → Agrees c lawful holds → Agrees (with_load c a new) lawful holds
+  pub still_agrees : Order → Filled → Agrees c told → Agrees (with_load c a new) told
   still_agrees o f g =
       record {
         same = λ b l.
@@ -151,14 +152,14 @@ set_is (x ∷ t) zero d lt e = e
 set_is (x ∷ t) (suc s) d lt e = set_is t s d (omega arith) e
 
 -- the same, over what the body knows
-module _ (c : CacheValue) (ok : IsCache c) (a m s : ℕ) (at : s ≡ a / 8 % c.sets) (was new : List Line) (lawful : ℕ → Bool) (holds : List ℕ) (there : was ≡ get_or c.held s was) (order : new ≡ loaded (is_in (a / 8) (keys was)) c.ways (a / 8) (front new) was) where
+module _ (c : CacheValue) (ok : IsCache c) (a m s : ℕ) (at : s ≡ a / 8 % c.sets) (was new : List Line) (told : Told) (there : was ≡ get_or c.held s was) (order : new ≡ loaded (is_in (a / 8) (keys was)) c.ways (a / 8) (front new) was) where
   was_is : was ≡ set_of c (a / 8 % c.sets)
   was_is = set_is c.held (a / 8 % c.sets) was (let t = ok.table in let some = ok.some_sets in omega arith) (there ∙ ap (λ s. get_or c.held s was) at)
 
-  in_order : Order c ok a new lawful holds
+  in_order : Order c ok a new told
   in_order = subst (λ (ls : List Line). new ≡ loaded (is_in (a / 8) (keys ls)) c.ways (a / 8) (front new) ls) was_is order
 
-  filled : (is_in (a / 8) (keys was) ≡ false → (w : ℕ) → w < 8 → lawful (8 * (a / 8) + w) ≡ true → get_or (front new) w 0 ≡ get_or holds (8 * (a / 8) + w) 0) → Filled c ok a new lawful holds
+  filled : (is_in (a / 8) (keys was) ≡ false → (w : ℕ) → w < 8 → told.lawful (8 * (a / 8) + w) ≡ true → get_or (front new) w 0 ≡ get_or told.words (8 * (a / 8) + w) 0) → Filled c ok a new told
   filled f n = f (ap (λ (ls : List Line). is_in (a / 8) (keys ls)) was_is ∙ n)
 
   pub load_stands : m ≡ cond (is_in (a / 8) (keys was)) 0 1 → (h : List ℕ) → StandsFor c h → StandsFor (record c { held = set c.held s new; loads = c.loads + 1; misses = c.misses + m }) (h ++ a ∷ [])
@@ -166,15 +167,15 @@ module _ (c : CacheValue) (ok : IsCache c) (a m s : ℕ) (at : s ≡ a / 8 % c.s
       subst (λ s. StandsFor (record c { held = set c.held s new; loads = c.loads + 1; misses = c.misses + m }) (h ++ a ∷ [])) (sym at)
       (subst (λ m. StandsFor (record c { held = set c.held (a / 8 % c.sets) new; loads = c.loads + 1; misses = c.misses + m }) (h ++ a ∷ []))
       (sym (e ∙ ap (λ (ls : List Line). cond (is_in (a / 8) (keys ls)) 0 1) was_is))
-      (stands c ok a new lawful holds in_order h f))
+      (stands c ok a new told in_order h f))
 
   pub load_reads : (h : List ℕ) → StandsFor c h → ◌≡◌ {A = ℕ} (cond (is_in (a / 8) (keys was)) 0 8) (cond (hits c.sets c.ways h a) 0 8)
-  load_reads h f = ap (λ (ls : List Line). cond (is_in (a / 8) (keys ls)) 0 8) was_is ∙ ap (λ b. cond b 0 8) (sym (hits_present c ok a new lawful holds h f))
+  load_reads h f = ap (λ (ls : List Line). cond (is_in (a / 8) (keys ls)) 0 8) was_is ∙ ap (λ b. cond b 0 8) (sym (hits_present c ok a new told h f))
 
-  pub load_value : (is_in (a / 8) (keys was) ≡ false → (w : ℕ) → w < 8 → lawful (8 * (a / 8) + w) ≡ true → get_or (front new) w 0 ≡ get_or holds (8 * (a / 8) + w) 0) → Agrees c lawful holds → lawful a ≡ true → get_or (front new) (a % 8) 0 ≡ get_or holds a 0
-  load_value f g l = loaded_value c ok a new lawful holds in_order (filled f) g l
+  pub load_value : (is_in (a / 8) (keys was) ≡ false → (w : ℕ) → w < 8 → told.lawful (8 * (a / 8) + w) ≡ true → get_or (front new) w 0 ≡ get_or told.words (8 * (a / 8) + w) 0) → Agrees c told → told.lawful a ≡ true → get_or (front new) (a % 8) 0 ≡ get_or told.words a 0
+  load_value f g l = loaded_value c ok a new told in_order (filled f) g l
 
-  pub load_agrees : (is_in (a / 8) (keys was) ≡ false → (w : ℕ) → w < 8 → lawful (8 * (a / 8) + w) ≡ true → get_or (front new) w 0 ≡ get_or holds (8 * (a / 8) + w) 0) → Agrees c lawful holds → Agrees (record c { held = set c.held s new; loads = c.loads + 1; misses = c.misses + m }) lawful holds
+  pub load_agrees : (is_in (a / 8) (keys was) ≡ false → (w : ℕ) → w < 8 → told.lawful (8 * (a / 8) + w) ≡ true → get_or (front new) w 0 ≡ get_or told.words (8 * (a / 8) + w) 0) → Agrees c told → Agrees (record c { held = set c.held s new; loads = c.loads + 1; misses = c.misses + m }) told
   load_agrees f g =
-      subst (λ s. Agrees (record c { held = set c.held s new; loads = c.loads + 1; misses = c.misses + m }) lawful holds) (sym at)
-      (record { same = (still_agrees c ok a new lawful holds in_order (filled f) g).same })
+      subst (λ s. Agrees (record c { held = set c.held s new; loads = c.loads + 1; misses = c.misses + m }) told) (sym at)
+      (record { same = (still_agrees c ok a new told in_order (filled f) g).same })

@@ -1,7 +1,7 @@
 -- A number of sets is a power of two.
 use Rattle.std.proofs.Common.{◌≡◌, ℕ, ◌^◌, ◌<◌, Bool, true, false, ◌||◌, ◌⊎◌, inl, inr, ⊎_elim, eqb, List, [], ◌∷◌, refl, subst, arith, eqb-true}
 use Rattle.std.specs.List.{list_any}
-use Rattle.plural_cache.specs.Cache.{is_set_count}
+use Rattle.plural_base.specs.CacheShape.{is_set_count}
 
 either_true : (a b : Bool) → (a || b) ≡ true → (a ≡ true) ⊎ (b ≡ true)
 either_true true b h = inl refl

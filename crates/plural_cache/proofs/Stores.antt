@@ -6,6 +6,7 @@ use Rattle.std.proofs.lemmas.List.{get_or-set_same, get_or-set_other}
 use Rattle.plural_cache.specs.declared.set.Line.{Line}
 use Rattle.plural_cache.specs.Miss.{present_after}
 use Rattle.plural_cache.specs.Lines.{keys, look, updated}
+use Rattle.plural_base.specs.Told.{Told, with_store}
 use Rattle.plural_cache.specs.Cache.{CacheValue, set_of, StandsFor, Agrees, IsCache, IsFresh, fresh}
 use Rattle.plural_cache.proofs.Misses.{present_none, misses_none}
 use Rattle.plural_cache.proofs.Orders.{bool_cases}
@@ -69,31 +70,31 @@ module _ (c : CacheValue) (ok : IsCache c) (a v : ℕ) (was new : List Line) (th
   Shows : List ℕ → List Line → ℕ → Type 0
   Shows holds ls b = IfSome (look (b / 8) ls) (λ ws. get_or ws (b % 8) 0 ≡ get_or holds b 0)
 
-  own_store_agrees : (n : ℕ) (lawful : ℕ → Bool) (holds : List ℕ) → a < length holds → IfSome (look (a / 8) was) (λ ws. length ws ≡ 8) → Agrees c lawful holds → Agrees (record c { held = set c.held (a / 8 % c.sets) new; stores = n }) lawful (set holds a v)
+  own_store_agrees : (n : ℕ) (told : Told) → a < length told.words → IfSome (look (a / 8) was) (λ ws. length ws ≡ 8) → Agrees c told → Agrees (record c { held = set c.held (a / 8 % c.sets) new; stores = n }) (with_store a v told)
   unfolding Shows
-  own_store_agrees n lawful holds within eight g =
+  own_store_agrees n told within eight g =
       record {
         same = λ b l.
             ⊎_elim
             (λ e.
             let is : a / 8 ≡ b / 8 = eqb-true (a / 8) (b / 8) e in
-            let before : Shows holds was b = subst (λ (ls : List Line). Shows holds ls b) (sym was_is) (subst (λ x. Shows holds (set_of c (x % c.sets)) b) (sym is) (g.same b l)) in
-            let start : IfSome (look (a / 8) was) (λ ws. get_or ws (b % 8) 0 ≡ get_or holds b 0) = subst (λ x. IfSome (look x was) (λ ws. get_or ws (b % 8) 0 ≡ get_or holds b 0)) (sym is) before in
-            let found : IfSome (look (a / 8) (updated (a / 8) (a % 8) v was)) (λ ws. get_or ws (b % 8) 0 ≡ get_or (set holds a v) b 0) =
-            look_updated (a / 8) (a % 8) v was _ _ (λ ws p k. set_word ws holds a b v k within (sym is) p) start eight in
-            subst (λ x. IfSome (look x (get_or (set c.held (a / 8 % c.sets) new) (x % c.sets) [])) (λ ws. get_or ws (b % 8) 0 ≡ get_or (set holds a v) b 0)) is
-            (subst (λ (ls : List Line). IfSome (look (a / 8) ls) (λ ws. get_or ws (b % 8) 0 ≡ get_or (set holds a v) b 0)) (sym (set_same c.held (a / 8 % c.sets) new inside ∙ order)) found))
+            let before : Shows told.words was b = subst (λ (ls : List Line). Shows told.words ls b) (sym was_is) (subst (λ x. Shows told.words (set_of c (x % c.sets)) b) (sym is) (g.same b l)) in
+            let start : IfSome (look (a / 8) was) (λ ws. get_or ws (b % 8) 0 ≡ get_or told.words b 0) = subst (λ x. IfSome (look x was) (λ ws. get_or ws (b % 8) 0 ≡ get_or told.words b 0)) (sym is) before in
+            let found : IfSome (look (a / 8) (updated (a / 8) (a % 8) v was)) (λ ws. get_or ws (b % 8) 0 ≡ get_or (set told.words a v) b 0) =
+            look_updated (a / 8) (a % 8) v was _ _ (λ ws p k. set_word ws told.words a b v k within (sym is) p) start eight in
+            subst (λ x. IfSome (look x (get_or (set c.held (a / 8 % c.sets) new) (x % c.sets) [])) (λ ws. get_or ws (b % 8) 0 ≡ get_or (set told.words a v) b 0)) is
+            (subst (λ (ls : List Line). IfSome (look (a / 8) ls) (λ ws. get_or ws (b % 8) 0 ≡ get_or (set told.words a v) b 0)) (sym (set_same c.held (a / 8 % c.sets) new inside ∙ order)) found))
             (λ e.
             let apart : b ≢ a = λ k. absurd (cc (sym e ∙ eq-eqb (a / 8) (b / 8) (ap (λ i. i / 8) (sym k)))) in
-            subst (λ z. IfSome (look (b / 8) (get_or (set c.held (a / 8 % c.sets) new) (b / 8 % c.sets) [])) (λ ws. get_or ws (b % 8) 0 ≡ z)) (sym (get_or-set_other holds a b v 0 apart))
+            subst (λ z. IfSome (look (b / 8) (get_or (set c.held (a / 8 % c.sets) new) (b / 8 % c.sets) [])) (λ ws. get_or ws (b % 8) 0 ≡ z)) (sym (get_or-set_other told.words a b v 0 apart))
             (⊎_elim
             (λ t.
             let is = eqb-true (a / 8 % c.sets) (b / 8 % c.sets) t in
-            subst (λ s. Shows holds (get_or (set c.held (a / 8 % c.sets) new) s []) b) is
-            (subst (λ (o : Option (List ℕ)). IfSome o (λ ws. get_or ws (b % 8) 0 ≡ get_or holds b 0))
+            subst (λ s. Shows told.words (get_or (set c.held (a / 8 % c.sets) new) s []) b) is
+            (subst (λ (o : Option (List ℕ)). IfSome o (λ ws. get_or ws (b % 8) 0 ≡ get_or told.words b 0))
             (sym (ap (look (b / 8)) (set_same c.held (a / 8 % c.sets) new inside ∙ order) ∙ look_updated_other (a / 8) (a % 8) v (b / 8) was e))
-            (subst (λ (ls : List Line). Shows holds ls b) (sym was_is) (subst (λ s. Shows holds (set_of c s) b) (sym is) (g.same b l)))))
-            (λ f. subst (λ (ls : List Line). Shows holds ls b) (sym (set_other c.held (a / 8 % c.sets) (b / 8 % c.sets) new f)) (g.same b l))
+            (subst (λ (ls : List Line). Shows told.words ls b) (sym was_is) (subst (λ s. Shows told.words (set_of c s) b) (sym is) (g.same b l)))))
+            (λ f. subst (λ (ls : List Line). Shows told.words ls b) (sym (set_other c.held (a / 8 % c.sets) (b / 8 % c.sets) new f)) (g.same b l))
             (bool_cases (eqb (a / 8 % c.sets) (b / 8 % c.sets)))))
             (bool_cases (eqb (a / 8) (b / 8)));
       }
@@ -105,10 +106,10 @@ module _ (c : CacheValue) (ok : IsCache c) (a v s : ℕ) (at : s ≡ a / 8 % c.s
       subst (λ s. StandsFor (record c { held = set c.held s new; stores = n }) h) (sym at)
       (own_store_stands c ok a v was new (there ∙ ap (λ s. get_or c.held s was) at) order n h f)
 
-  pub store_agrees : (n : ℕ) (lawful : ℕ → Bool) (holds : List ℕ) → a < length holds → IfSome (look (a / 8) was) (λ ws. length ws ≡ 8) → Agrees c lawful holds → Agrees (record c { held = set c.held s new; stores = n }) lawful (set holds a v)
-  store_agrees n lawful holds within eight g =
-      subst (λ s. Agrees (record c { held = set c.held s new; stores = n }) lawful (set holds a v)) (sym at)
-      (own_store_agrees c ok a v was new (there ∙ ap (λ s. get_or c.held s was) at) order n lawful holds within eight g)
+  pub store_agrees : (n : ℕ) (told : Told) → a < length told.words → IfSome (look (a / 8) was) (λ ws. length ws ≡ 8) → Agrees c told → Agrees (record c { held = set c.held s new; stores = n }) (with_store a v told)
+  store_agrees n told within eight g =
+      subst (λ s. Agrees (record c { held = set c.held s new; stores = n }) (with_store a v told)) (sym at)
+      (own_store_agrees c ok a v was new (there ∙ ap (λ s. get_or c.held s was) at) order n told within eight g)
 
 empty_set : (n s : ℕ) → get_or {A = List Line} (replicate n []) s [] ≡ []
 empty_set zero s = refl
@@ -124,8 +125,8 @@ fresh_is sets ways =
         loads = refl;
         misses = sym (misses_none sets ways);
       };
-      agrees = λ lawful holds. record {
-        same = λ a l. subst (λ (ls : List Line). IfSome (look (a / 8) ls) (λ ws. get_or ws (a % 8) 0 ≡ get_or holds a 0)) (sym (empty_set sets (a / 8 % sets))) tt;
+      agrees = λ told. record {
+        same = λ a l. subst (λ (ls : List Line). IfSome (look (a / 8) ls) (λ ws. get_or ws (a % 8) 0 ≡ get_or told.words a 0)) (sym (empty_set sets (a / 8 % sets))) tt;
       };
     }
 

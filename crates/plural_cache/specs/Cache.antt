@@ -1,6 +1,7 @@
 -- A cache as contracts see it. (This project's own; no section of a standard.)
 use Rattle.std.specs.Prelude.{ℕ, ◌≡◌, ◌-◌, ◌/◌, ◌%◌, ◌<◌, ◌≤◌, ◌==◌, Bool, true, false, List, [], ◌∷◌, length, take, slice_index, slice_index_or, IfSome, replicate}
-use Rattle.std.specs.List.{list_any}
+use Rattle.plural_base.specs.CacheShape.{is_set_count}
+use Rattle.plural_base.specs.Told.{Told}
 use Rattle.plural_cache.specs.declared.set.Line.{Line}
 use Rattle.plural_cache.specs.Miss.{is_in, present_after, misses_of}
 use Rattle.plural_cache.specs.Lines.{keys, look, brought}
@@ -29,13 +30,13 @@ pub record StandsFor (c : CacheValue) (h : List ℕ) : Type 0 where
   pub loads : c.loads ≡ length h
   pub misses : c.misses ≡ misses_of c.sets c.ways h
 
--- The cache agrees with a memory: each word that is present and lawful is the memory's.
-pub record Agrees (c : CacheValue) (lawful : ℕ → Bool) (holds : List ℕ) : Type 0 where
-  pub same : (a : ℕ) → lawful a ≡ true → IfSome (look (a / 8) (set_of c (a / 8 % c.sets))) (λ ws. slice_index ws (a % 8) ≡ slice_index holds a)
+-- A line has word a of these words.
+abbrev pub AgreesAt : ℕ → List ℕ → List ℕ → Type 0
+AgreesAt a words line = slice_index line (a % 8) ≡ slice_index words a
 
--- A number of sets is a power of two from 1 to 64.
-abbrev pub is_set_count : ℕ → Bool
-is_set_count sets = list_any (λ n. n == sets) (1 ∷ 2 ∷ 4 ∷ 8 ∷ 16 ∷ 32 ∷ 64 ∷ [])
+-- The cache agrees with a memory: each word that is present and lawful is the memory's.
+pub record Agrees (c : CacheValue) (told : Told) : Type 0 where
+  pub same : (a : ℕ) → told.lawful a ≡ true → IfSome (look (a / 8) (set_of c (a / 8 % c.sets))) (AgreesAt a told.words)
 
 -- The shapes of a cache: a power of two from 1 to 64 sets, of 1 to 4 ways.
 pub record IsShape (sets ways : ℕ) : Type 0 where
@@ -66,4 +67,4 @@ fresh sets ways = record { sets = sets; ways = ways; held = replicate sets []; l
 pub record IsFresh (c : CacheValue) (sets ways : ℕ) : Type 0 where
   pub is : c ≡ fresh sets ways
   pub stands : StandsFor c []
-  pub agrees : (lawful : ℕ → Bool) (holds : List ℕ) → Agrees c lawful holds
+  pub agrees : (told : Told) → Agrees c told

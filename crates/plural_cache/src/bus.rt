@@ -1,23 +1,16 @@
 //! What a cache reads and writes.
-ghost use Rattle.std.specs.Prelude.{◌≡◌, ℕ, ◌+◌, ◌<◌, ◌^◌, List, Bool, true, Option, length, slice_index, slice_set};
-ghost use Rattle.plural_cache.specs.Bus.{IsNext, after, Reads, Writes};
+ghost use Rattle.std.specs.Prelude.{◌≡◌, ℕ, ◌<◌, ◌^◌, true, length, slice_index};
+ghost use Rattle.plural_base.specs.Told.{Told, Counted, IsNext};
+ghost use Rattle.plural_cache.specs.Bus.{Reads, Writes};
 
 /// A memory as one instance has it, one word in each call. Addresses count words from 0.
 pub trait Bus {
-    /// The words as the instance has them.
-    ghost holds: { Self → List ℕ };
+    /// What it tells: its words as the instance has them, which of them are lawful to read, and the stores to come,
+    /// if they are told.
+    ghost told: { Self → Told };
 
-    /// Which words are lawful to read.
-    ghost lawful: { Self → ℕ → Bool };
-
-    /// The stores still to come, as pairs of address and word, where they are told.
-    ghost expects: { Self → Option (List (ℕ × ℕ)) };
-
-    /// How many words were read.
-    ghost reads: { Self → ℕ };
-
-    /// How many words were written.
-    ghost writes: { Self → ℕ };
+    /// How many words were read and written.
+    ghost counts: { Self → Counted };
 
     /// What stays fixed from one state of the bus to a later one.
     ghost keeps: { Self → Self → Type 0 };
@@ -28,21 +21,21 @@ pub trait Bus {
     /// Reads the word at `a`. For a word that isn't lawful the answer is any number.
     fn read(&mut self, a: u32) -> u32
         requires sound { is_sound self.old }
-        requires within { a < length (holds self.old) }
-        requires room { reads self.old < 2 ^ 62 }
-        ensures value { lawful self.old a ≡ true → result ≡ slice_index (holds self.old) a }
-        ensures step { Reads holds lawful expects reads writes keeps is_sound 1 self.old self.new };
+        requires within { a < length (told self.old).words }
+        requires room { (counts self.old).reads < 2 ^ 62 }
+        ensures value { (told self.old).lawful a ≡ true → result ≡ slice_index (told self.old).words a }
+        ensures step { Reads told counts keeps is_sound 1 self.old self.new };
 
     /// Writes the word at `a`.
     fn write(&mut self, a: u32, v: u32)
         requires sound { is_sound self.old }
-        requires within { a < length (holds self.old) }
-        requires room { writes self.old < 2 ^ 62 }
-        requires expected { IsNext (expects self.old) (a, v) }
-        ensures step { Writes holds lawful expects reads writes keeps is_sound a v self.old self.new };
+        requires within { a < length (told self.old).words }
+        requires room { (counts self.old).writes < 2 ^ 62 }
+        requires expected { IsNext (told self.old).expects (a, v) }
+        ensures step { Writes told counts keeps is_sound a v self.old self.new };
 
     /// A lawful word is a word of the memory.
-    ghost within: { (s : Self) (a : ℕ) → lawful s a ≡ true → a < length (holds s) };
+    ghost within: { (s : Self) (a : ℕ) → (told s).lawful a ≡ true → a < length (told s).words };
 
     /// What is fixed stays where nothing changes.
     ghost keeps_none: { (s : Self) → keeps s s };

@@ -1,8 +1,10 @@
 //! The cache and its four calls.
 ghost use Rattle.std.specs.Prelude.{◌≡◌, ℕ, ◌+◌, ◌-◌, ◌*◌, ◌/◌, ◌%◌, ◌<◌, ◌≤◌, ◌^◌, List, [], ◌∷◌, ◌++◌, length, true, false, slice_index, replicate, if◌then◌else◌, IfOk};
-ghost use Rattle.plural_cache.specs.Bus.{Reads, Writes, IsNext};
+ghost use Rattle.plural_cache.specs.Bus.{Reads, Writes};
+ghost use Rattle.plural_base.specs.Told.{IsNext};
 ghost use Rattle.plural_cache.specs.Miss.{hits, misses_of};
-ghost use Rattle.plural_cache.specs.Cache.{StandsFor, Agrees, IsShape, IsFresh, is_present, is_set_count};
+ghost use Rattle.plural_cache.specs.Cache.{StandsFor, Agrees, IsShape, IsFresh, is_present};
+ghost use Rattle.plural_base.specs.CacheShape.{is_set_count};
 
 use crate::access::load_in;
 use crate::bus::Bus;
@@ -113,14 +115,14 @@ impl Cache {
     /// A store to word `a`: one write of the bus. It fills no line, and changes no age.
     pub fn store<B: Bus>(&mut self, bus: &mut B, a: u32, v: u32)
         requires sound { B.is_sound bus.old }
-        requires within { a < length (B.holds bus.old) }
-        requires room { B.writes bus.old < 2 ^ 62 }
-        requires expected { IsNext (B.expects bus.old) (a, v) }
-        requires agrees { Agrees self.old (B.lawful bus.old) (B.holds bus.old) }
+        requires within { a < length (B.told bus.old).words }
+        requires room { (B.counts bus.old).writes < 2 ^ 62 }
+        requires expected { IsNext (B.told bus.old).expects (a, v) }
+        requires agrees { Agrees self.old (B.told bus.old) }
         requires few { self.old.stores < 100000000 }
-        ensures step { Writes B.holds B.lawful B.expects B.reads B.writes B.keeps B.is_sound a v bus.old bus.new }
+        ensures step { Writes B.told B.counts B.keeps B.is_sound a v bus.old bus.new }
         ensures stands { (h : List ℕ) → StandsFor self.old h → StandsFor self.new h }
-        ensures agrees { Agrees self.new (B.lawful bus.new) (B.holds bus.new) }
+        ensures agrees { Agrees self.new (B.told bus.new) }
         ensures loads { self.new.loads ≡ self.old.loads }
         ensures misses { self.new.misses ≡ self.old.misses }
         ensures stores { self.new.stores ≡ self.old.stores + 1 }
@@ -138,17 +140,17 @@ impl Cache {
     #[inline]
     pub fn load<B: Bus>(&mut self, bus: &mut B, a: u32) -> u32
         requires sound { B.is_sound bus.old }
-        requires lawful { B.lawful bus.old a ≡ true }
-        requires within { 8 * (a / 8) + 8 ≤ length (B.holds bus.old) }
-        requires room { B.reads bus.old < 2 ^ 61 }
-        requires agrees { Agrees self.old (B.lawful bus.old) (B.holds bus.old) }
+        requires lawful { (B.told bus.old).lawful a ≡ true }
+        requires within { 8 * (a / 8) + 8 ≤ length (B.told bus.old).words }
+        requires room { (B.counts bus.old).reads < 2 ^ 61 }
+        requires agrees { Agrees self.old (B.told bus.old) }
         requires few { self.old.loads < 100000000 }
-        ensures value { result ≡ slice_index (B.holds bus.old) a }
+        ensures value { result ≡ slice_index (B.told bus.old).words a }
         ensures stands { (h : List ℕ) → StandsFor self.old h → StandsFor self.new (h ++ a ∷ []) }
-        ensures reads { (h : List ℕ) → StandsFor self.old h → B.reads bus.new ≡ B.reads bus.old + (if hits self.old.sets self.old.ways h a then 0 else 8) }
-        ensures step { Reads B.holds B.lawful B.expects B.reads B.writes B.keeps B.is_sound (if is_present self.old a then 0 else 8) bus.old bus.new }
+        ensures reads { (h : List ℕ) → StandsFor self.old h → (B.counts bus.new).reads ≡ (B.counts bus.old).reads + (if hits self.old.sets self.old.ways h a then 0 else 8) }
+        ensures step { Reads B.told B.counts B.keeps B.is_sound (if is_present self.old a then 0 else 8) bus.old bus.new }
         ensures misses { self.new.misses ≡ self.old.misses + (if is_present self.old a then 0 else 1) }
-        ensures agrees { Agrees self.new (B.lawful bus.new) (B.holds bus.new) }
+        ensures agrees { Agrees self.new (B.told bus.new) }
         ensures loads { self.new.loads ≡ self.old.loads + 1 }
         ensures stores { self.new.stores ≡ self.old.stores }
         ensures sets { self.new.sets ≡ self.old.sets }

@@ -8,7 +8,8 @@ use Rattle.plural_regions.specs.Rights.{may_read, may_write}
 use Rattle.plural_core.specs.Subword.{size_of}
 use Rattle.plural_core.specs.Act.{Act, act, get}
 use Rattle.plural_core.specs.Act as a
-use Rattle.plural_core.specs.Port.{Makes, Expects, Foresees, after}
+use Rattle.plural_base.specs.Told.{Told, Counted, Expects, Foresees, after, told_after}
+use Rattle.plural_core.specs.Port.{Makes}
 use Rattle.plural_core.specs.Life.{unless_over, life, join, stay}
 use Rattle.plural_core.specs.declared.end.End.{End}
 use Rattle.plural_core.specs.declared.hart.Turn.TheVariants as outcome
@@ -73,19 +74,6 @@ pub after-after : (i j : ℕ) (e : Option (List (ℕ × ℕ))) → after j (afte
 after-after i j None = refl
 after-after i j (Some stores) = ap Some (drop-drop j i stores)
 
--- the accesses of two steps
-pub joined : {P : Type 0} {holds : P → List ℕ} {lawful : P → ℕ → Bool} {expects : P → Option (List (ℕ × ℕ))} {stands_for : P → List ℕ → Type 0} {loads stores : P → ℕ} {keeps : P → P → Type 0} {is_sound : P → Type 0} {x y z : P} → ((x y z : P) → keeps x y → keeps y z → keeps x z) → (d t : Step) → Makes holds lawful expects stands_for loads stores keeps is_sound x y d → Makes holds lawful expects stands_for loads stores keeps is_sound y z t → Makes holds lawful expects stands_for loads stores keeps is_sound x z (join d t)
-joined {expects} {x} both d t h k = record {
-  memory = k.memory;
-  law = k.law ∙ h.law;
-  rest = k.rest ∙ ap (after (length t.stores)) h.rest ∙ after-after (length d.stores) (length t.stores) (expects x) ∙ ap (λ n. after n (expects x)) (sym (length-append d.stores t.stores));
-  stands = λ l q. rw (← append_assoc) (k.stands (l ++ d.loads) (h.stands l q));
-  load_count = omega (arith, h.load_count, k.load_count, length-append d.loads t.loads);
-  store_count = omega (arith, h.store_count, k.store_count, length-append d.stores t.stores);
-  kept = both _ _ _ h.kept k.kept;
-  sound = k.sound;
-}
-
 pub join_assoc : (a b c : Step) → join (join a b) c ≡ join a (join b c)
 join_assoc a b c = rw (append_assoc, append_assoc) refl
 
@@ -122,42 +110,60 @@ after_none : (e : Option (List (ℕ × ℕ))) → e ≡ after 0 e
 after_none None = refl
 after_none (Some stores) = refl
 
--- no accesses
-pub idle : {P : Type 0} (holds : P → List ℕ) (lawful : P → ℕ → Bool) (expects : P → Option (List (ℕ × ℕ))) (stands_for : P → List ℕ → Type 0) (loads stores : P → ℕ) (keeps : P → P → Type 0) (is_sound : P → Type 0) (x : P) (s : State) → keeps x x → is_sound x → Makes holds lawful expects stands_for loads stores keeps is_sound x x (stay s (holds x))
-idle holds lawful expects stands_for loads stores keeps is_sound x s none h = record {
-  memory = refl;
-  law = refl;
-  rest = after_none (expects x);
-  stands = λ l q. rw append-nil q;
-  load_count = omega arith;
-  store_count = omega arith;
-  kept = none;
-  sound = h;
-}
+-- What is told after one step and another is what is told after both.
+told_twice : (i j : ℕ) (m n : List ℕ) (t : Told) → told_after j n (told_after i m t) ≡ told_after (i + j) n t
+told_twice i j m n t = ap (λ e. let r : Told = record { words = n; lawful = t.lawful; expects = e } in r) (after-after i j t.expects)
 
--- a turn more, where the life goes on
-pub more : {P : Type 0} (holds : P → List ℕ) (lawful : P → ℕ → Bool) (expects : P → Option (List (ℕ × ℕ))) (stands_for : P → List ℕ → Type 0) (loads stores : P → ℕ) (keeps : P → P → Type 0) (is_sound : P → Type 0) (both : (x y z : P) → keeps x y → keeps y z → keeps x z) (x y z : P) (b : ℕ) (p : Place) (s : State) (d all : Step) →
-    s.over ≡ None → s.count < b → (turn p s (holds y)).state.over ≡ None →
-    Makes holds lawful expects stands_for loads stores keeps is_sound x y d → Makes holds lawful expects stands_for loads stores keeps is_sound y z (turn p s (holds y)) →
-    join d (life (b - s.count) p s (holds y)) ≡ all →
-    (e : Step) × Makes holds lawful expects stands_for loads stores keeps is_sound x z e × (join e (life (b - (turn p s (holds y)).state.count) p (turn p s (holds y)).state (holds z)) ≡ all)
-more holds lawful expects stands_for loads stores keeps is_sound both x y z b p s d all h l g made k q =
-    let t = turn p s (holds y) in (
-      join d t,
-      joined both d t made k,
-      rw k.memory (join_assoc d t (life (b - t.state.count) p t.state t.memory) ∙ ap (join d) (sym (life_on b p s (holds y) h l g)) ∙ q),
-    )
+-- What any port has made of steps.
+module _ {P : Type 0} (told : P → Told) (counts : P → Counted) (stands_for : P → List ℕ → Type 0) (keeps : P → P → Type 0) (is_sound : P → Type 0) where
+  abbrev Made : P → P → Step → Type 0
+  Made x y t = Makes told counts stands_for keeps is_sound x y t
 
--- the last turn
-pub last : {P : Type 0} (holds : P → List ℕ) (lawful : P → ℕ → Bool) (expects : P → Option (List (ℕ × ℕ))) (stands_for : P → List ℕ → Type 0) (loads stores : P → ℕ) (keeps : P → P → Type 0) (is_sound : P → Type 0) (both : (x y z : P) → keeps x y → keeps y z → keeps x z) (x y z : P) (b : ℕ) (p : Place) (s : State) (d all : Step) (e : End) →
-    s.over ≡ None → s.count < b → (turn p s (holds y)).state.over ≡ Some e →
-    Makes holds lawful expects stands_for loads stores keeps is_sound x y d → Makes holds lawful expects stands_for loads stores keeps is_sound y z (turn p s (holds y)) →
-    join d (life (b - s.count) p s (holds y)) ≡ all →
-    Makes holds lawful expects stands_for loads stores keeps is_sound x z all × (all.state ≡ (turn p s (holds y)).state)
-last {P} holds lawful expects stands_for loads stores keeps is_sound both x y z b p s d all e h l g made k q =
-    let t = turn p s (holds y) in
-    let same : join d t ≡ all = ap (join d) (sym (life_last b p s (holds y) e h l g)) ∙ q in
-    (subst (λ (a : Step). Makes holds lawful expects stands_for loads stores keeps is_sound x z a) same (joined both d t made k), ap (λ a. a.state) (sym same))
+  -- The accesses of two steps.
+  joined : (both : (x y z : P) → keeps x y → keeps y z → keeps x z) (x y z : P) (d t : Step) → Made x y d → Made y z t → Made x z (join d t)
+  joined both x y z d t h k = record {
+    stored = k.stored ∙ ap (told_after (length t.stores) t.memory) h.stored
+        ∙ told_twice (length d.stores) (length t.stores) d.memory t.memory (told x)
+        ∙ ap (λ n. told_after n t.memory (told x)) (sym (length-append d.stores t.stores));
+    stands = λ l q. rw (← append_assoc) (k.stands (l ++ d.loads) (h.stands l q));
+    read = omega (arith, h.read, k.read, length-append d.loads t.loads);
+    written = omega (arith, h.written, k.written, length-append d.stores t.stores);
+    kept = both x y z h.kept k.kept;
+    sound = k.sound;
+  }
+
+  -- No accesses.
+  pub idle : (x : P) (s : State) → keeps x x → is_sound x → Made x x (stay s (told x).words)
+  idle x s none h = record {
+    stored = ap (λ e. let r : Told = record { words = (told x).words; lawful = (told x).lawful; expects = e } in r) (after_none (told x).expects);
+    stands = λ l q. rw append-nil q;
+    read = omega arith;
+    written = omega arith;
+    kept = none;
+    sound = h;
+  }
+
+  -- A turn more, after which the life goes on.
+  pub more : (both : (x y z : P) → keeps x y → keeps y z → keeps x z) (x y z : P) (b : ℕ) (p : Place) (s : State) (d all : Step)
+      → s.over ≡ None → s.count < b → (turn p s (told y).words).state.over ≡ None
+      → Made x y d → Made y z (turn p s (told y).words) → join d (life (b - s.count) p s (told y).words) ≡ all
+      → (e : Step) × Made x z e × (join e (life (b - (turn p s (told y).words).state.count) p (turn p s (told y).words).state (told z).words) ≡ all)
+  more both x y z b p s d all h l g made k q =
+      let t = turn p s (told y).words in (
+        join d t,
+        joined both x y z d t made k,
+        rw k.stored (join_assoc d t (life (b - t.state.count) p t.state t.memory) ∙ ap (join d) (sym (life_on b p s (told y).words h l g)) ∙ q),
+      )
+
+  -- The last turn.
+  pub last : (both : (x y z : P) → keeps x y → keeps y z → keeps x z) (x y z : P) (b : ℕ) (p : Place) (s : State) (d all : Step) (e : End)
+      → s.over ≡ None → s.count < b → (turn p s (told y).words).state.over ≡ Some e
+      → Made x y d → Made y z (turn p s (told y).words) → join d (life (b - s.count) p s (told y).words) ≡ all
+      → Made x z all × (all.state ≡ (turn p s (told y).words).state)
+  last both x y z b p s d all e h l g made k q =
+      let t = turn p s (told y).words in
+      let same : join d t ≡ all = ap (join d) (sym (life_last b p s (told y).words e h l g)) ∙ q in
+      (subst (λ (a : Step). Made x z a) same (joined both x y z d t made k), ap (λ a. a.state) (sym same))
 
 pub going_none : (o : Option End) → outcome_of o ≡ outcome.Going → o ≡ None
 going_none None h = refl

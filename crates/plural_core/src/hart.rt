@@ -4,7 +4,8 @@ ghost use Rattle.plural_regions.specs.Rights.{may_read, may_write};
 ghost use Rattle.plural_core.specs.Subword.{size_of};
 ghost use Rattle.plural_core.specs.Act.{get, put, act};
 ghost use Rattle.plural_core.specs.Execution.{seen};
-ghost use Rattle.plural_core.specs.Port.{Makes, Expects, Foresees};
+ghost use Rattle.plural_core.specs.Port.{Makes};
+ghost use Rattle.plural_base.specs.Told.{Foresees};
 ghost use Rattle.plural_core.specs.Turn.{Core, State, going, trapped, finished, loaded, stored, place_of, turn_of, outcome_of};
 
 use crate::end::End;
@@ -91,7 +92,8 @@ fn may_write(regions: &[Region], k: u32, a: u32) -> bool
 impl Hart {
     ghost use Rattle.std.specs.Prelude.{◌≡◌, ◌<◌, ◌≤◌, ◌+◌, ◌-◌, ℕ, true, List, [], length, None, Some, slice_index};
     ghost use Rattle.plural_regions.specs.Rights.{may_read, may_write};
-    ghost use Rattle.plural_core.specs.Port.{Makes, Expects, Foresees};
+    ghost use Rattle.plural_core.specs.Port.{Makes};
+    ghost use Rattle.plural_base.specs.Told.{Foresees};
     ghost use Rattle.plural_core.specs.declared.end.End.TheVariants.{Trap as trap};
     ghost use Rattle.plural_core.specs.Act.{put, act, Read, Write, Go, Finish};
     ghost use Rattle.plural_core.specs.Arithmetic.{sum_of};
@@ -123,13 +125,13 @@ impl Hart {
     pub fn turn<P: DataPort>(&mut self, code: &Code, regions: &[Region], port: &mut P) -> Turn
         requires going { self.old.state.over ≡ None }
         requires sound { P.is_sound port.old }
-        requires lawful { (a : ℕ) → may_read regions.now self.old.k a ≡ true → P.lawful port.old a ≡ true }
-        requires loads { P.loads port.old ≤ self.old.state.count }
-        requires stores { P.stores port.old ≤ self.old.state.count }
-        requires expected { Foresees (P.expects port.old) (turn_of code.now regions.now self.old (P.holds port.old)).stores }
-        ensures state { self.new ≡ record self.old { state = (turn_of code.now regions.now self.old (P.holds port.old)).state } }
-        ensures port { Makes P.holds P.lawful P.expects P.stands_for P.loads P.stores P.keeps P.is_sound port.old port.new
-            (turn_of code.now regions.now self.old (P.holds port.old)) }
+        requires lawful { (a : ℕ) → may_read regions.now self.old.k a ≡ true → (P.told port.old).lawful a ≡ true }
+        requires loads { (P.counts port.old).reads ≤ self.old.state.count }
+        requires stores { (P.counts port.old).writes ≤ self.old.state.count }
+        requires expected { Foresees (P.told port.old).expects (turn_of code.now regions.now self.old (P.told port.old).words).stores }
+        ensures state { self.new ≡ record self.old { state = (turn_of code.now regions.now self.old (P.told port.old).words).state } }
+        ensures port { Makes P.told P.counts P.stands_for P.keeps P.is_sound port.old port.new
+            (turn_of code.now regions.now self.old (P.told port.old).words) }
         ensures outcome { result ≡ outcome_of self.new.state.over }
         ensures within { self.new.state.over ≡ None → self.new.state.count < self.new.budget }
     {
@@ -215,11 +217,11 @@ impl Hart {
     )
         requires going { self.old.state.over ≡ None }
         requires sound { P.is_sound port.old }
-        requires lawful { (a : ℕ) → may_read regions.now self.old.k a ≡ true → P.lawful port.old a ≡ true }
-        requires loads { P.loads port.old ≤ self.old.state.count }
-        ensures state { self.new ≡ record self.old { state = (does (place_of [] regions.now self.old) self.old.state (P.holds port.old) (Read address width sign rd)).state } }
-        ensures port { Makes P.holds P.lawful P.expects P.stands_for P.loads P.stores P.keeps P.is_sound port.old port.new
-            (does (place_of [] regions.now self.old) self.old.state (P.holds port.old) (Read address width sign rd)) }
+        requires lawful { (a : ℕ) → may_read regions.now self.old.k a ≡ true → (P.told port.old).lawful a ≡ true }
+        requires loads { (P.counts port.old).reads ≤ self.old.state.count }
+        ensures state { self.new ≡ record self.old { state = (does (place_of [] regions.now self.old) self.old.state (P.told port.old).words (Read address width sign rd)).state } }
+        ensures port { Makes P.told P.counts P.stands_for P.keeps P.is_sound port.old port.new
+            (does (place_of [] regions.now self.old) self.old.state (P.told port.old).words (Read address width sign rd)) }
     {
         if address % size(width) != 0 {
             self.trap(4);
@@ -244,13 +246,13 @@ impl Hart {
     )
         requires going { self.old.state.over ≡ None }
         requires sound { P.is_sound port.old }
-        requires lawful { (a : ℕ) → may_read regions.now self.old.k a ≡ true → P.lawful port.old a ≡ true }
-        requires loads { P.loads port.old ≤ self.old.state.count }
-        requires stores { P.stores port.old ≤ self.old.state.count }
-        requires expected { Foresees (P.expects port.old) (does (place_of [] regions.now self.old) self.old.state (P.holds port.old) (Write address width value)).stores }
-        ensures state { self.new ≡ record self.old { state = (does (place_of [] regions.now self.old) self.old.state (P.holds port.old) (Write address width value)).state } }
-        ensures port { Makes P.holds P.lawful P.expects P.stands_for P.loads P.stores P.keeps P.is_sound port.old port.new
-            (does (place_of [] regions.now self.old) self.old.state (P.holds port.old) (Write address width value)) }
+        requires lawful { (a : ℕ) → may_read regions.now self.old.k a ≡ true → (P.told port.old).lawful a ≡ true }
+        requires loads { (P.counts port.old).reads ≤ self.old.state.count }
+        requires stores { (P.counts port.old).writes ≤ self.old.state.count }
+        requires expected { Foresees (P.told port.old).expects (does (place_of [] regions.now self.old) self.old.state (P.told port.old).words (Write address width value)).stores }
+        ensures state { self.new ≡ record self.old { state = (does (place_of [] regions.now self.old) self.old.state (P.told port.old).words (Write address width value)).state } }
+        ensures port { Makes P.told P.counts P.stands_for P.keeps P.is_sound port.old port.new
+            (does (place_of [] regions.now self.old) self.old.state (P.told port.old).words (Write address width value)) }
     {
         if address % size(width) != 0 {
             self.trap(6);

@@ -1,7 +1,8 @@
 //! The whole life of an instance.
 ghost use Rattle.std.specs.Prelude.{◌≡◌, ℕ, ◌<◌, ◌≤◌, length, Some, None, true};
 ghost use Rattle.plural_regions.specs.Rights.{may_read};
-ghost use Rattle.plural_core.specs.Port.{Makes, Expects};
+ghost use Rattle.plural_base.specs.Told.{Expects};
+ghost use Rattle.plural_core.specs.Port.{Makes};
 ghost use Rattle.plural_core.specs.Life.{rest_of};
 
 use crate::end::End;
@@ -15,15 +16,15 @@ pub fn run<P: DataPort>(hart: &mut Hart, code: &Code, regions: &[Region], port: 
     requires going { hart.old.state.over ≡ None }
     requires room { hart.old.state.count < hart.old.budget }
     requires sound { P.is_sound port.old }
-    requires lawful { (a : ℕ) → may_read regions.now hart.old.k a ≡ true → P.lawful port.old a ≡ true }
-    requires loads { P.loads port.old ≤ hart.old.state.count }
-    requires stores { P.stores port.old ≤ hart.old.state.count }
-    requires expected { Expects (P.expects port.old) (rest_of code.now regions.now hart.old (P.holds port.old)).stores }
-    ensures state { hart.new ≡ record hart.old { state = (rest_of code.now regions.now hart.old (P.holds port.old)).state } }
-    ensures port { Makes P.holds P.lawful P.expects P.stands_for P.loads P.stores P.keeps P.is_sound port.old port.new
-        (rest_of code.now regions.now hart.old (P.holds port.old)) }
+    requires lawful { (a : ℕ) → may_read regions.now hart.old.k a ≡ true → (P.told port.old).lawful a ≡ true }
+    requires loads { (P.counts port.old).reads ≤ hart.old.state.count }
+    requires stores { (P.counts port.old).writes ≤ hart.old.state.count }
+    requires expected { Expects (P.told port.old).expects (rest_of code.now regions.now hart.old (P.told port.old).words).stores }
+    ensures state { hart.new ≡ record hart.old { state = (rest_of code.now regions.now hart.old (P.told port.old).words).state } }
+    ensures port { Makes P.told P.counts P.stands_for P.keeps P.is_sound port.old port.new
+        (rest_of code.now regions.now hart.old (P.told port.old).words) }
     ensures end { hart.new.state.over ≡ Some result }
-    ensures words { length (P.holds port.new) ≡ length (P.holds port.old) }
+    ensures words { length (P.told port.new).words ≡ length (P.told port.old).words }
 {
     loop {
         match hart.turn(code, regions, port) {

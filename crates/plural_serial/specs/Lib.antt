@@ -1,3 +1,4 @@
+pub use Rattle.plural_base.specs.Told
 pub use Rattle.plural_core.specs.Turn
 pub use Rattle.plural_core.specs.Life
 pub use Rattle.plural_cache.specs.Bus

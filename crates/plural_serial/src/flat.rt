@@ -1,4 +1,4 @@
-ghost use Rattle.std.specs.Prelude.{◌≡◌, ℕ, ◌+◌, ◌<◌, ◌≤◌, ◌^◌, List, [], None, length, nat_lt, slice_index};
+ghost use Rattle.std.specs.Prelude.{◌≡◌, None, length, nat_lt};
 
 use plural_cache::Bus;
 use std::marker::Model;
@@ -39,20 +39,6 @@ impl Flat {
         self.writes = 0;
     }
 
-    /// How many words were read.
-    pub fn reads(&self) -> u64
-        ensures { result ≡ self.now.reads }
-    {
-        self.reads
-    }
-
-    /// How many words were written.
-    pub fn writes(&self) -> u64
-        ensures { result ≡ self.now.writes }
-    {
-        self.writes
-    }
-
     /// The words, given back.
     pub fn into_words(self) -> Vec<u32>
         ensures { result.items ≡ self.words }
@@ -63,15 +49,9 @@ impl Flat {
 }
 
 impl Bus for Flat {
-    ghost holds = { λ f. f.words };
+    ghost told = { λ f. record { words = f.words; lawful = λ a. nat_lt a (length f.words); expects = None } };
 
-    ghost lawful = { λ f a. nat_lt a (length f.words) };
-
-    ghost expects = { λ _. None };
-
-    ghost reads = { λ f. f.reads };
-
-    ghost writes = { λ f. f.writes };
+    ghost counts = { λ f. record { reads = f.reads; writes = f.writes } };
 
     ghost keeps = { λ _ _. Unit {0} };
 

@@ -18,15 +18,9 @@ impl Bus for Words {
     ghost use Rattle.std.proofs.Common.{arith};
     ghost use Rattle.std.proofs.lemmas.Bool.Decides.{nat_tests};
 
-    ghost holds = { λ w. w.words.items };
+    ghost told = { λ w. record { words = w.words.items; lawful = λ a. nat_lt a (length w.words.items); expects = None } };
 
-    ghost lawful = { λ w a. nat_lt a (length w.words.items) };
-
-    ghost expects = { λ _. None };
-
-    ghost reads = { λ w. w.reads };
-
-    ghost writes = { λ w. w.writes };
+    ghost counts = { λ w. record { reads = w.reads; writes = w.writes } };
 
     ghost keeps = { λ _ _. Unit {0} };
 

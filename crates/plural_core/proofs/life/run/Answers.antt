@@ -1,4 +1,5 @@
 use Rattle.std.proofs.Common.{◌≡◌, ◌-◌, ◌∙◌, length, None, sym, refl, ap, arith}
+use Rattle.plural_base.specs.Told.{Told}
 use Rattle.plural_core.specs.Turn.{place_of, turn}
 use Rattle.plural_core.specs.Life.{stay}
 use Rattle.plural_core.proofs.Lives.{idle, more, last, foreseen, expected_on, fine_turn, going_none, over_some, core_is, words_kept}
@@ -17,8 +18,8 @@ loop-end-init g c =
       stores = c.requires.stores;
       expected = c.requires.expected;
       made = (
-        stay c.args.hart.now.state (P.holds c.args.port.now),
-        idle P.holds P.lawful P.expects P.stands_for P.loads P.stores P.keeps P.is_sound c.args.port.now c.args.hart.now.state (g.met.P.DataPort.keeps_none c.args.port.now) c.requires.sound,
+        stay c.args.hart.now.state (P.told c.args.port.now).words,
+        idle P.told P.counts P.stands_for P.keeps P.is_sound c.args.port.now c.args.hart.now.state (g.met.P.DataPort.keeps_none c.args.port.now) c.requires.sound,
         refl,
       );
     }
@@ -27,7 +28,7 @@ pub turn-requires-clause-expected : goal.turn-requires-clause-expected
 turn-requires-clause-expected g c =
     let i = c.loop-end.invariant in
     let P = g.P.DataPort in
-    foreseen c.loop-end.hart.budget (place_of c.args.code.now c.args.regions.now c.loop-end.hart) c.loop-end.hart.state (P.holds c.loop-end.port) (P.expects c.loop-end.port) i.going i.room i.expected
+    foreseen c.loop-end.hart.budget (place_of c.args.code.now c.args.regions.now c.loop-end.hart) c.loop-end.hart.state (P.told c.loop-end.port).words (P.told c.loop-end.port).expects i.going i.room i.expected
 
 pub loop-end-smaller : goal.loop-end-smaller
 loop-end-smaller g c =
@@ -37,7 +38,7 @@ loop-end-smaller g c =
     let over = going_none c.turn.new.self.state.over (sym c.turn.ensures.outcome ∙ c.in-Going.is) in
     let s = ap (λ h. h.state) c.turn.ensures.state in
     let b = ap (λ h. h.budget) c.turn.ensures.state in
-    let goes = (fine_turn p c.loop-end.hart.state (P.holds c.loop-end.port)).goes (sym (ap (λ t. t.over) s) ∙ over) in
+    let goes = (fine_turn p c.loop-end.hart.state (P.told c.loop-end.port).words).goes (sym (ap (λ t. t.over) s) ∙ over) in
     let count = ap (λ t. t.count) s in
     let below = c.turn.ensures.within over in
     omega (arith, i.room, goes, count, b, below)
@@ -47,7 +48,7 @@ loop-end-preserved g c =
     let i = c.loop-end.invariant in
     let P = g.P.DataPort in
     let p = place_of c.args.code.now c.args.regions.now c.loop-end.hart in
-    let m = P.holds c.loop-end.port in
+    let m = (P.told c.loop-end.port).words in
     let t = turn p c.loop-end.hart.state m in
     let over : c.turn.new.self.state.over ≡ None = going_none c.turn.new.self.state.over (sym c.turn.ensures.outcome ∙ c.in-Going.is) in
     let s = ap (λ h. h.state) c.turn.ensures.state in
@@ -64,10 +65,10 @@ loop-end-preserved g c =
       k = k ∙ i.k;
       budget = b ∙ i.budget;
       sound = made.sound;
-      loads = omega (arith, i.loads, made.load_count, fine.few_loads, goes, count);
-      stores = omega (arith, i.stores, made.store_count, fine.few_stores, goes, count);
-      expected = rw (c.turn.ensures.state, made.memory, made.rest) (expected_on c.loop-end.hart.budget p c.loop-end.hart.state m (P.expects c.loop-end.port) i.going i.room still i.expected);
-      made = rw c.turn.ensures.state (more P.holds P.lawful P.expects P.stands_for P.loads P.stores P.keeps P.is_sound g.met.P.DataPort.keeps_both c.args.port.now c.loop-end.port c.turn.new.port c.loop-end.hart.budget p c.loop-end.hart.state i.made.0 _ i.going i.room still i.made.1 made i.made.2);
+      loads = omega (arith, i.loads, made.read, fine.few_loads, goes, count);
+      stores = omega (arith, i.stores, made.written, fine.few_stores, goes, count);
+      expected = rw (c.turn.ensures.state, made.stored) (expected_on c.loop-end.hart.budget p c.loop-end.hart.state m (P.told c.loop-end.port).expects i.going i.room still i.expected);
+      made = rw c.turn.ensures.state (more P.told P.counts P.stands_for P.keeps P.is_sound g.met.P.DataPort.keeps_both c.args.port.now c.loop-end.port c.turn.new.port c.loop-end.hart.budget p c.loop-end.hart.state i.made.0 _ i.going i.room still i.made.1 made i.made.2);
     }
 
 pub returns-in-Over-clause-state : goal.returns-in-Over-clause-state
@@ -77,7 +78,7 @@ returns-in-Over-clause-state g c =
     let p = place_of c.args.code.now c.args.regions.now c.loop-end.hart in
     let s = ap (λ h. h.state) c.turn.ensures.state in
     let over = sym (ap (λ t. t.over) s) ∙ over_some c.turn.new.self.state.over c.in-Over.end (sym c.turn.ensures.outcome ∙ c.in-Over.is) in
-    let l = last P.holds P.lawful P.expects P.stands_for P.loads P.stores P.keeps P.is_sound g.met.P.DataPort.keeps_both c.args.port.now c.loop-end.port c.turn.new.port c.loop-end.hart.budget p c.loop-end.hart.state i.made.0 _ c.in-Over.end i.going i.room over i.made.1 c.turn.ensures.port i.made.2 in
+    let l = last P.told P.counts P.stands_for P.keeps P.is_sound g.met.P.DataPort.keeps_both c.args.port.now c.loop-end.port c.turn.new.port c.loop-end.hart.budget p c.loop-end.hart.state i.made.0 _ c.in-Over.end i.going i.room over i.made.1 c.turn.ensures.port i.made.2 in
     core_is c.turn.new.self _ _ _ (s ∙ sym l.1) (ap (λ h. h.k) c.turn.ensures.state ∙ i.k) (ap (λ h. h.budget) c.turn.ensures.state ∙ i.budget)
 
 pub returns-in-Over-clause-port : goal.returns-in-Over-clause-port
@@ -87,7 +88,7 @@ returns-in-Over-clause-port g c =
     let p = place_of c.args.code.now c.args.regions.now c.loop-end.hart in
     let s = ap (λ h. h.state) c.turn.ensures.state in
     let over = sym (ap (λ t. t.over) s) ∙ over_some c.turn.new.self.state.over c.in-Over.end (sym c.turn.ensures.outcome ∙ c.in-Over.is) in
-    (last P.holds P.lawful P.expects P.stands_for P.loads P.stores P.keeps P.is_sound g.met.P.DataPort.keeps_both c.args.port.now c.loop-end.port c.turn.new.port c.loop-end.hart.budget p c.loop-end.hart.state i.made.0 _ c.in-Over.end i.going i.room over i.made.1 c.turn.ensures.port i.made.2).0
+    (last P.told P.counts P.stands_for P.keeps P.is_sound g.met.P.DataPort.keeps_both c.args.port.now c.loop-end.port c.turn.new.port c.loop-end.hart.budget p c.loop-end.hart.state i.made.0 _ c.in-Over.end i.going i.room over i.made.1 c.turn.ensures.port i.made.2).0
 
 pub returns-in-Over-clause-words : goal.returns-in-Over-clause-words
 returns-in-Over-clause-words g c =
@@ -96,5 +97,5 @@ returns-in-Over-clause-words g c =
     let p = place_of c.args.code.now c.args.regions.now c.loop-end.hart in
     let s = ap (λ h. h.state) c.turn.ensures.state in
     let over = sym (ap (λ t. t.over) s) ∙ over_some c.turn.new.self.state.over c.in-Over.end (sym c.turn.ensures.outcome ∙ c.in-Over.is) in
-    let made = (last P.holds P.lawful P.expects P.stands_for P.loads P.stores P.keeps P.is_sound g.met.P.DataPort.keeps_both c.args.port.now c.loop-end.port c.turn.new.port c.loop-end.hart.budget p c.loop-end.hart.state i.made.0 _ c.in-Over.end i.going i.room over i.made.1 c.turn.ensures.port i.made.2).0 in
-    ap length made.memory ∙ words_kept (c.args.hart.now.budget - c.args.hart.now.state.count) (place_of c.args.code.now c.args.regions.now c.args.hart.now) c.args.hart.now.state (P.holds c.args.port.now)
+    let made = (last P.told P.counts P.stands_for P.keeps P.is_sound g.met.P.DataPort.keeps_both c.args.port.now c.loop-end.port c.turn.new.port c.loop-end.hart.budget p c.loop-end.hart.state i.made.0 _ c.in-Over.end i.going i.room over i.made.1 c.turn.ensures.port i.made.2).0 in
+    ap (λ (t : Told). length t.words) made.stored ∙ words_kept (c.args.hart.now.budget - c.args.hart.now.state.count) (place_of c.args.code.now c.args.regions.now c.args.hart.now) c.args.hart.now.state (P.told c.args.port.now).words

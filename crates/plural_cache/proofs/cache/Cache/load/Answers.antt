@@ -11,8 +11,8 @@ returns-clause-value g c =
     let bus = c.args.bus.now in
     let v : CacheValue = record { sets = s.sets; ways = s.ways; held = s.table.items; loads = s.loads; misses = s.misses; stores = s.stores } in
     let e = c.load_in-got.ensures in
-    e.value ∙ load_value v c.self.invariant c.args.a 0 c.set_index-s.result c.set_index-s.ensures c.index_mut.result.now c.load_in-got.new.set (B.lawful bus) (B.holds bus) c.index_mut.ensures.value e.order e.words
-    (subst (λ (k : CacheValue). Agrees k (B.lawful bus) (B.holds bus)) (sym c.self.view_is) c.requires.agrees) c.requires.lawful
+    e.value ∙ load_value v c.self.invariant c.args.a 0 c.set_index-s.result c.set_index-s.ensures c.index_mut.result.now c.load_in-got.new.set (B.told bus) c.index_mut.ensures.value e.order e.words
+    (subst (λ (k : CacheValue). Agrees k (B.told bus)) (sym c.self.view_is) c.requires.agrees) c.requires.lawful
 
 pub returns-clause-stands : goal.returns-clause-stands
 returns-clause-stands g c = λ h f.
@@ -21,7 +21,7 @@ returns-clause-stands g c = λ h f.
     let bus = c.args.bus.now in
     let v : CacheValue = record { sets = s.sets; ways = s.ways; held = s.table.items; loads = s.loads; misses = s.misses; stores = s.stores } in
     let e = c.load_in-got.ensures in
-    load_stands v c.self.invariant c.args.a c.load_in-got.result.misses c.set_index-s.result c.set_index-s.ensures c.index_mut.result.now c.load_in-got.new.set (B.lawful bus) (B.holds bus) c.index_mut.ensures.value e.order e.misses h
+    load_stands v c.self.invariant c.args.a c.load_in-got.result.misses c.set_index-s.result c.set_index-s.ensures c.index_mut.result.now c.load_in-got.new.set (B.told bus) c.index_mut.ensures.value e.order e.misses h
     (subst (λ (k : CacheValue). StandsFor k h) (sym c.self.view_is) f)
 
 pub returns-clause-reads : goal.returns-clause-reads
@@ -31,8 +31,8 @@ returns-clause-reads g c = λ h f.
     let bus = c.args.bus.now in
     let v : CacheValue = record { sets = s.sets; ways = s.ways; held = s.table.items; loads = s.loads; misses = s.misses; stores = s.stores } in
     let e = c.load_in-got.ensures in
-    e.step.read ∙ ap (λ n. B.reads bus + n) (load_reads v c.self.invariant c.args.a 0 c.set_index-s.result c.set_index-s.ensures c.index_mut.result.now c.load_in-got.new.set (B.lawful bus) (B.holds bus) c.index_mut.ensures.value e.order h
-    (subst (λ (k : CacheValue). StandsFor k h) (sym c.self.view_is) f)) ∙ ap (λ (k : CacheValue). B.reads bus + cond (hits k.sets k.ways h c.args.a) 0 8) c.self.view_is
+    e.step.read ∙ ap (λ n. (B.counts bus).reads + n) (load_reads v c.self.invariant c.args.a 0 c.set_index-s.result c.set_index-s.ensures c.index_mut.result.now c.load_in-got.new.set (B.told bus) c.index_mut.ensures.value e.order h
+    (subst (λ (k : CacheValue). StandsFor k h) (sym c.self.view_is) f)) ∙ ap (λ (k : CacheValue). (B.counts bus).reads + cond (hits k.sets k.ways h c.args.a) 0 8) c.self.view_is
 
 pub returns-clause-agrees : goal.returns-clause-agrees
 returns-clause-agrees g c =
@@ -41,6 +41,6 @@ returns-clause-agrees g c =
     let bus = c.args.bus.now in
     let v : CacheValue = record { sets = s.sets; ways = s.ways; held = s.table.items; loads = s.loads; misses = s.misses; stores = s.stores } in
     let e = c.load_in-got.ensures in
-    rw (e.step.law, e.step.memory)
-    (load_agrees v c.self.invariant c.args.a c.load_in-got.result.misses c.set_index-s.result c.set_index-s.ensures c.index_mut.result.now c.load_in-got.new.set (B.lawful bus) (B.holds bus) c.index_mut.ensures.value e.order e.words
-    (subst (λ (k : CacheValue). Agrees k (B.lawful bus) (B.holds bus)) (sym c.self.view_is) c.requires.agrees))
+    rw e.step.same
+    (load_agrees v c.self.invariant c.args.a c.load_in-got.result.misses c.set_index-s.result c.set_index-s.ensures c.index_mut.result.now c.load_in-got.new.set (B.told bus) c.index_mut.ensures.value e.order e.words
+    (subst (λ (k : CacheValue). Agrees k (B.told bus)) (sym c.self.view_is) c.requires.agrees))

@@ -16,6 +16,6 @@ returns-clause-agrees g c =
     let s = c.self.inside in
     let bus = c.args.bus.now in
     let v : CacheValue = record { sets = s.sets; ways = s.ways; held = s.table.items; loads = s.loads; misses = s.misses; stores = s.stores } in
-    rw (c.write.ensures.step.law, c.write.ensures.step.memory)
-    (store_agrees v c.self.invariant c.args.a c.args.v c.set_index-s.result c.set_index-s.ensures c.index_mut.result.now c.update.new.self c.index_mut.ensures.value c.update.ensures.order (s.stores + 1) (B.lawful bus) (B.holds bus) c.requires.within c.update.ensures.eight
-    (subst (λ (k : CacheValue). Agrees k (B.lawful bus) (B.holds bus)) (sym c.self.view_is) c.requires.agrees))
+    rw c.write.ensures.step.stored
+    (store_agrees v c.self.invariant c.args.a c.args.v c.set_index-s.result c.set_index-s.ensures c.index_mut.result.now c.update.new.self c.index_mut.ensures.value c.update.ensures.order (s.stores + 1) (B.told bus) c.requires.within c.update.ensures.eight
+    (subst (λ (k : CacheValue). Agrees k (B.told bus)) (sym c.self.view_is) c.requires.agrees))

@@ -23,5 +23,5 @@ store-requires-clause-within g c =
     let within = g.met.P.DataPort.within c.args.port.now a (c.requires.lawful a (may_read_from_write c.args.regions.now c.args.self.now.k a allowed)) in
     elim c.match-width.branch [
       | in-Word w ↦ rw w.port-is within
-      | in_default w ↦ rw (w.port-is, w.load.ensures.holds) within
+      | in_default w ↦ rw (w.port-is, w.load.ensures.told) within
     ]
