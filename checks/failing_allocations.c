@@ -1,7 +1,7 @@
 /* Laid under a program by LD_PRELOAD: makes allocations fail. Calls of malloc, calloc, realloc, aligned_alloc, memalign and
    posix_memalign count together, from 1.
 
-   FAIL_FIRST, FAIL_LAST: the numbers of the first and of the last call that fails. Where one fails, a byte is written to the
+   FAIL_FIRST, FAIL_LAST: the numbers of the first and of the last call that fails. If one fails, a byte is written to the
    file descriptor that FAIL_SEEN names. */
 #include <errno.h>
 #include <stddef.h>

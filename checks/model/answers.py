@@ -22,7 +22,7 @@ def number(word, low, high):
 
 
 def read_words(words):
-    """The command with its numbers, or None where the words are in no row of the table."""
+    """The command with its numbers, or None if the words are in no row of the table."""
     if len(words) == 1 and words[0] in (b"serial", b"check", b"asm", b"dis", b"verify"):
         return words[0].decode(), {}
     if not words or words[0] not in (b"run", b"make"):

@@ -1,8 +1,8 @@
-"""Whole inputs: a bundle, and a bundle with the output of a run behind it.
+"""Whole inputs: a bundle, and a bundle with the output of a run after it.
 
-A bundle has the line `plural 1`, and then map, kernel and image lines, each section behind its
+A bundle has the line `plural 1`, and then map, kernel and image lines, each section after its
 header, and `[end]`.  A header is a line whose first token begins with `[`.  A line that stands
-where another is due is malformed, and where the text ends too early it's the line behind the last
+where another is due is malformed, and if the text ends too early it's the line after the last
 one.  The fault of an input is its first faulty line with the least kind of that line.
 """
 
@@ -26,7 +26,7 @@ class Lines:
         self.place = 0
 
     def next_number(self):
-        """The number of the line that stands next, or of the one behind the last."""
+        """The number of the line that stands next, or of the one after the last."""
         if self.place < len(self.lines):
             return self.lines[self.place].number
         return self.after_last
@@ -64,7 +64,7 @@ def read_version(line):
 
 
 def label_names(lines):
-    """The labels' names of the lines behind the first `[kernels]`, up to the next header."""
+    """The labels' names of the lines after the first `[kernels]`, up to the next header."""
     all_texts = [line.text for line in lines]
     if b"[kernels]" not in all_texts:
         return set()

@@ -1,12 +1,12 @@
 """Which instances clash.
 
 Two different instances clash at a word that lies in a region of each and in a write region of at
-least one, where they are of one task, or of two of which neither comes before the other by
+least one, if they are of one task, or of two of which neither comes before the other by
 dependencies and which aren't exclusive branches.  The first clash is the least by the two tasks,
 then the two instances, then the word, with the lesser instance first.
 
 It's sought in two ways: pair by pair in this order, which says the rule but is slow, and word by
-word.  Where the pairs are few both are taken, and they must agree.
+word.  If the pairs are few both are taken, and they must agree.
 """
 
 from . import maps
@@ -15,7 +15,7 @@ FEW_PAIRS = 20000
 
 
 def may_clash(task_map):
-    """The pairs t <= u of tasks whose instances clash where they meet, in order."""
+    """The pairs t <= u of tasks whose instances clash if they meet, in order."""
     before = maps.predecessors(task_map)
     needs = maps.needs(task_map)
     count = len(task_map.tasks)
@@ -24,7 +24,7 @@ def may_clash(task_map):
 
 
 def words_of(task, k, mode):
-    """The words of instance k in regions of a mode, or in all regions where the mode is None."""
+    """The words of instance k in regions of a mode, or in all regions if the mode is None."""
     return {word for region in task.regions if mode in (None, region.mode)
             for word in region.words(k)}
 

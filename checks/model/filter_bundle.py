@@ -38,7 +38,7 @@ def draws(seed, count):
 
 
 def holes(instances, words, taps, filtered, outputs, shift, partial):
-    """What fills the holes: the sizes given, the words behind them, and byte addresses."""
+    """What fills the holes: the sizes given, the words after them, and byte addresses."""
     filled = {"N": instances, "W": words, "TAPS": taps, "Y": filtered, "C": outputs, "S": shift,
               "M": partial}
     for place, name in enumerate(["BEST", "LOUD", "LIM", "QUIET", "DONE"]):

@@ -1,7 +1,7 @@
 """Logs: their lines, read and printed, and whether a log and a last image are legal.
 
 The log has a header with the number of cores, one line per task with its outcome, and one line
-per entry: an instance, its record, its core and its two tickets.  It's legal where its entries are
+per entry: an instance, its record, its core and its two tickets.  It's legal if its entries are
 the instances of the serial run with their records, its tickets are drawn from one clock in an
 order that the dependencies allow, no core runs two instances at once, and the outcomes and the
 last image are the serial run's.  The verdict names the first rule that fails and its least place.
@@ -138,7 +138,7 @@ def overlap(one, other):
 
 
 def verdict(program, start, log, last):
-    """None where the log and the last image are legal, else the rule and the place."""
+    """None if the log and the last image are legal, else the rule and the place."""
     run = machine.serial(program, start)
     before = maps.predecessors(program.map)
     entries = log.entries

@@ -7,7 +7,7 @@ regions, and those of its write regions may be stored to.  An instance whose cou
 budget without an end is exhausted.
 
 The serial run takes the tasks in their order and the instances of each by rising number, one
-after another over one memory.  A load access misses where its line isn't among the last `ways`
+after another over one memory.  A load access misses if its line isn't among the last `ways`
 different lines of its set; this is asked of the whole list of the instance's load accesses.
 """
 

@@ -183,7 +183,7 @@ def satisfied(when, outcome):
 
 
 def decide(task, outcomes):
-    """`failed` or `skipped` where no instance runs, else None."""
+    """`failed` or `skipped` if no instance runs, else None."""
     if any(outcomes[p] == "failed" for p, _ in task.dependencies):
         return "failed"
     if not all(satisfied(when, outcomes[p]) for p, when in task.dependencies):

@@ -100,7 +100,7 @@ def immediate(word, shape):
 
 
 def decode(word):
-    """The instruction of a word, or None where no row has its fixed fields."""
+    """The instruction of a word, or None if no row has its fixed fields."""
     for row in ROWS:
         if word & row.mask == row.value:
             registers = SHAPES[row.shape][3]

@@ -1,8 +1,8 @@
 """Lines, tokens, numerals and names: what every text is made of.
 
-A text is cut at its line feeds; a rest after the last line feed is a line where it isn't empty.
+A text is cut at its line feeds; a rest after the last line feed is a line if it isn't empty.
 One carriage return at the end of a line is dropped, then the comment from `#` on, then the blanks
-at both ends.  Blanks are the space and the tab.  What is left, where it isn't empty, is a content
+at both ends.  Blanks are the space and the tab.  What is left, if it isn't empty, is a content
 line, and lines are numbered from 1 with the empty ones counted.  A content line may hold tabs and
 the bytes 0x20 to 0x7E alone.  A numeral is decimal, or hexadecimal after `0x`, of any length.
 """
@@ -73,7 +73,7 @@ def is_header(line):
 
 
 def numeral(token):
-    """The value of a numeral, or None where the token is none."""
+    """The value of a numeral, or None if the token is none."""
     if DECIMAL.fullmatch(token):
         return int(token, 10)
     if HEXADECIMAL.fullmatch(token):

@@ -60,7 +60,7 @@ def other_token(rng, token, text):
 
 
 def change_token(rng, text, line_number=None):
-    """The text with one token changed, on a given line where one is given."""
+    """The text with one token changed, on a given line if one is given."""
     lines = text.split(b"\n")
     number = rng.randrange(len(lines)) if line_number is None else line_number
     if number >= len(lines):
@@ -79,7 +79,7 @@ IDENTIFIER = re.compile(rb"[A-Za-z_][A-Za-z0-9_]*")
 
 
 def change_found(rng, text, line_number, pattern, other):
-    """The text with one place of a pattern changed, on a given line where one is given."""
+    """The text with one place of a pattern changed, on a given line if one is given."""
     lines = text.split(b"\n")
     if line_number is None:
         all_of = [number for number, line in enumerate(lines) if pattern.search(line)]

@@ -5,7 +5,7 @@ from . import spelling
 
 
 def scheduled(rng, program, run):
-    """A legal log of a run on several cores, in which instances overlap where they may."""
+    """A legal log of a run on several cores, in which instances overlap if they may."""
     before = maps.predecessors(program.map)
     cores = rng.choice([1, 1, 2, 3, 4, 64])
     waiting = list(run.records)
