@@ -1,6 +1,6 @@
 //! Assembling kernel lines.
 
-ghost use Rattle.std.specs.Prelude.{◌≡◌, ◌≤◌, ◌*◌, ℕ, List, length, MatchResult};
+ghost use Rattle.std.specs.Prelude.{◌≡◌, ◌≤◌, ◌*◌, ℕ, List, length, IfOk, MatchResult};
 ghost use Rattle.plural_bytes.specs.Spelled.{text_lines};
 ghost use Rattle.plural_bytes.specs.Faults.{IsFaultless};
 ghost use Rattle.plural_asm.specs.Words.{code_of, labels_of};
@@ -11,11 +11,19 @@ use crate::offset::target_offset;
 use crate::places::{note_label, places, words_in};
 use crate::verdict::verdict;
 use crate::words::{put_label, put_words};
-use plural_bytes::Line;
+use plural_bytes::{Line, Memory};
 use plural_isa::Code;
 use plural_statement::line_of;
 use std::alloc::Global;
 use std::collections::BTreeMap;
+
+/// The code of words.
+fn coded(alloc: Global, words: Vec<u32>) -> Result<Code, Memory>
+    requires { length words.items ≤ 16384 }
+    ensures { IfOk result (λ code. code ≡ words.items) }
+{
+    Ok(Code::of(alloc, words)?)
+}
 
 /// The code and the labels of kernel lines, or their first fault.
 pub fn assemble(alloc: Global, lines: &[Line<'_>]) -> Result<Object, AsmError>
@@ -45,8 +53,6 @@ pub fn assemble(alloc: Global, lines: &[Line<'_>]) -> Result<Object, AsmError>
         put_words(&mut words, &all, here, kernel.statement)?;
         here += words_in(kernel.statement);
     }
-    Ok(Object {
-        code: Code::of(words),
-        labels,
-    })
+    let code = coded(alloc, words)?;
+    Ok(Object { code, labels })
 }

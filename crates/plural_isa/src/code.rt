@@ -1,29 +1,48 @@
-ghost use Rattle.std.specs.Prelude.{◌≡◌, ℕ, ◌+◌, ◌-◌, ◌*◌, ◌/◌, ◌%◌, ◌^◌, ◌<◌, ◌≤◌, List, length, slice_index};
+ghost use Rattle.std.specs.Prelude.{◌≡◌, ◌<◌, ◌≤◌, length, slice_index, map, IfOk};
+ghost use Rattle.plural_isa.specs.Decoding.{decoded};
 
+use crate::decoder::decode;
+use crate::instr::Instr;
+use std::alloc::{AllocError, Global};
 use std::marker::Model;
 
 /// The words of a program's code, at most 16,384, seen by contracts as their list. Word `i` stands at
-/// byte address `4 * i` of the code's own memory.
+/// byte address `4 * i` of the code's own memory. Each word is decoded once, when the code is made.
 #[derive(Drop)]
 pub struct Code {
     words: Vec<u32>,
+    instrs: Vec<Option<Instr>>,
 }
 
 impl Model for Code {
+    ghost use Rattle.std.specs.Prelude.{◌≡◌, ℕ, ◌≤◌, List, length, map};
+    ghost use Rattle.plural_isa.specs.Decoding.{decoded};
+
     ghost Value = { List ℕ };
 
     ghost view = { λ c. c.words.items };
 
-    ghost invariant = { λ c. length c.words.items ≤ 16384 };
+    ghost invariant = { λ c. (length c.words.items ≤ 16384) × (c.instrs.items ≡ map decoded c.words.items) };
+}
+
+/// What is kept for a word beside the word takes at most 16 bytes.
+const _: () = prove!(size_of::<Option<Instr>>() <= 16);
+
+/// The instruction of each word.
+fn instrs_of(alloc: Global, words: &[u32]) -> Result<Vec<Option<Instr>>, AllocError>
+    ensures { IfOk result (λ instrs. instrs.items ≡ map decoded words.now) }
+{
+    words.iter().map(|word| decode(*word)).collect(alloc)
 }
 
 impl Code {
-    /// The code of these words.
-    pub fn of(words: Vec<u32>) -> Code
+    /// The code of these words. `Err` where memory ran out.
+    pub fn of(alloc: Global, words: Vec<u32>) -> Result<Code, AllocError>
         requires { length words.items ≤ 16384 }
-        ensures { result ≡ words.items }
+        ensures { IfOk result (λ code. code ≡ words.items) }
     {
-        Code { words }
+        let instrs = instrs_of(alloc, &words)?;
+        Ok(Code { words, instrs })
     }
 
     /// How many words it has, at most 16,384.
@@ -40,5 +59,13 @@ impl Code {
         ensures { result ≡ slice_index self.now i }
     {
         self.words[i as usize]
+    }
+
+    /// The instruction of the word at place `i`, in words from 0, as `decode` gives it.
+    pub fn instr(&self, i: u32) -> Option<Instr>
+        requires { i < length self.now }
+        ensures { result ≡ decoded (slice_index self.now i) }
+    {
+        self.instrs[i as usize]
     }
 }

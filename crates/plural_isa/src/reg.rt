@@ -6,7 +6,7 @@ use std::marker::Model;
 /// seen by contracts as its number, which is below 32.
 #[derive(Clone, Copy, Debug, PartialEq, Eq)]
 pub struct Reg {
-    number: u32,
+    number: u8,
 }
 
 impl Model for Reg {
@@ -25,7 +25,7 @@ impl Reg {
         requires { n < 32 }
         ensures { result ≡ n }
     {
-        Reg { number: n }
+        Reg { number: n as u8 }
     }
 
     /// The number of the register, from 0 to 31.
@@ -33,6 +33,6 @@ impl Reg {
         ensures value { result ≡ self }
         ensures bound { result < 32 }
     {
-        self.number
+        u32::from(self.number)
     }
 }

@@ -22,7 +22,7 @@ loop-line-preserved c = record {
       omega (arith, fits, c.words_in-here.ensures.value);
 }
 
-pub of-requires : goal.of-requires
-of-requires c =
+pub coded-requires : goal.coded-requires
+coded-requires c =
     let e : length c.loop-line.words.items ≡ c.loop-line.here = ap length c.loop-line.invariant.reads.code ∙ code_length (text_lines c.args.lines.now) (text_lines (take c.loop-line.line-index c.args.lines.now)) ∙ sym c.loop-line.invariant.reads.place in
     omega (arith, e, c.loop-line.invariant.small)
