@@ -37,7 +37,7 @@ fn load_absent<B: Bus>(set: &mut Set, ways: usize, bus: &mut B, a: u32) -> u32
 }
 
 /// A load access to word `a`, whose line belongs to `set`: a line that is absent is filled.
-#[inline]
+#[inline(always)]
 pub fn load_in<B: Bus>(set: &mut Set, ways: usize, bus: &mut B, a: u32) -> Loaded
     requires ways { (0 < ways) × (ways ≤ 4) }
     requires sound { B.is_sound bus.old }

@@ -67,6 +67,7 @@ fn clear_sets(table: &mut Vec<Set>)
 }
 
 /// The set that a line belongs to.
+#[inline(always)]
 fn set_index(line: u32, sets: u32) -> usize
     requires { is_set_count sets ≡ true }
     ensures { result ≡ line % sets }
@@ -75,7 +76,7 @@ fn set_index(line: u32, sets: u32) -> usize
 }
 
 impl Cache {
-    /// A cache with no line, of `sets` sets of `ways` lines. Its one error is want of memory.
+    /// A cache with no line, of `sets` sets of `ways` lines. It fails only if memory ran out.
     pub fn open(alloc: Global, sets: u32, ways: u32) -> Result<Cache, Memory>
         requires shape { IsShape sets ways }
         ensures fresh { IfOk result (λ c. IsFresh c sets ways) }
@@ -113,6 +114,7 @@ impl Cache {
     }
 
     /// A store to word `a`: one write of the bus. It fills no line, and changes no age.
+    #[inline(always)]
     pub fn store<B: Bus>(&mut self, bus: &mut B, a: u32, v: u32)
         requires sound { B.is_sound bus.old }
         requires within { a < length (B.told bus.old).words }
@@ -137,7 +139,7 @@ impl Cache {
 
     /// A load access to word `a`. A line that is absent is filled by eight reads of the bus; where its
     /// set is full, the line whose last load access is oldest is dropped.
-    #[inline]
+    #[inline(always)]
     pub fn load<B: Bus>(&mut self, bus: &mut B, a: u32) -> u32
         requires sound { B.is_sound bus.old }
         requires lawful { (B.told bus.old).lawful a ≡ true }

@@ -82,6 +82,7 @@ impl Set {
     }
 
     /// The place of line `x`, from 0 for the newest.
+    #[inline(always)]
     fn find(&self, x: u32) -> Option<usize>
         ensures some { IfSome result (λ p. IsFirst x p self.now) }
         ensures none { IfNone result (is_in x (keys self.now) ≡ false) }
@@ -96,6 +97,7 @@ impl Set {
     }
 
     /// Makes line `x` the newest, and answers whether it is present.
+    #[inline(always)]
     pub fn seek(&mut self, x: u32) -> bool
         ensures present { result ≡ is_in x (keys self.old) }
         ensures order { self.new ≡ brought x self.old }
@@ -110,6 +112,7 @@ impl Set {
     }
 
     /// Makes the line at place `p` the newest.
+    #[inline(always)]
     fn touch(&mut self, p: usize)
         requires { p < length self.old }
         ensures { (x : ℕ) → IsFirst x p self.old → self.new ≡ brought x self.old }
@@ -133,6 +136,7 @@ impl Set {
     }
 
     /// A word of the newest line.
+    #[inline(always)]
     pub fn front_word(&self, w: usize) -> u32
         requires w { w < 8 }
         requires some { 0 < length self.now }

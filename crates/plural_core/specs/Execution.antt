@@ -100,7 +100,7 @@ effect_of instr.Ebreak x pc = a.Trap 8
 -- The effect that an action of the code is, over these registers.
 abbrev pub seen : List ℕ → Action → Act
 seen x (action.Go rd value pc) = a.Go (put x rd value) pc
-seen x (action.Read width sign address rd) = a.Read address width sign rd
-seen x (action.Write width address value) = a.Write address width value
+seen x (action.Read load) = a.Read load.address load.width load.sign load.rd
+seen x (action.Write store) = a.Write store.address store.width store.value
 seen x action.Finish = a.Finish
 seen x (action.Trap cause) = a.Trap cause

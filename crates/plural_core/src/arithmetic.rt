@@ -3,6 +3,7 @@ ghost use Rattle.std.specs.Prelude.{◌≡◌, ℕ, ◌+◌, ◌-◌, ◌*◌, �
 ghost use Rattle.plural_core.specs.Arithmetic.{signed, word, sum_of, difference_of, left_of, right_of, signed_right_of, is_below_signed, product_of, mulh_of, mulhsu_of, mulhu_of, div_of, rem_of, divu_of, remu_of};
 
 /// ADD and ADDI: the sum modulo 2^32.
+#[inline(always)]
 pub fn sum(a: u32, b: u32) -> u32
     ensures { result ≡ sum_of a b }
 {
@@ -10,6 +11,7 @@ pub fn sum(a: u32, b: u32) -> u32
 }
 
 /// SUB: the difference modulo 2^32.
+#[inline(always)]
 pub fn difference(a: u32, b: u32) -> u32
     ensures { result ≡ difference_of a b }
 {
@@ -17,6 +19,7 @@ pub fn difference(a: u32, b: u32) -> u32
 }
 
 /// SLL and SLLI: by the low five bits of `b`.
+#[inline(always)]
 pub fn left(a: u32, b: u32) -> u32
     ensures { result ≡ left_of a b }
 {
@@ -24,6 +27,7 @@ pub fn left(a: u32, b: u32) -> u32
 }
 
 /// SRL and SRLI: by the low five bits of `b`.
+#[inline(always)]
 pub fn right(a: u32, b: u32) -> u32
     ensures { result ≡ right_of a b }
 {
@@ -31,6 +35,7 @@ pub fn right(a: u32, b: u32) -> u32
 }
 
 /// SRA and SRAI: by the low five bits of `b`, with copies of the sign.
+#[inline(always)]
 pub fn signed_right(a: u32, b: u32) -> u32
     ensures { result ≡ signed_right_of a b }
 {
@@ -38,6 +43,7 @@ pub fn signed_right(a: u32, b: u32) -> u32
 }
 
 /// SLT and BLT: as signed numbers.
+#[inline(always)]
 pub fn is_below_signed(a: u32, b: u32) -> bool
     ensures { result ≡ is_below_signed a b }
 {
@@ -45,6 +51,7 @@ pub fn is_below_signed(a: u32, b: u32) -> bool
 }
 
 /// MUL: the low 32 bits of the product.
+#[inline(always)]
 pub fn product(a: u32, b: u32) -> u32
     ensures { result ≡ product_of a b }
 {
@@ -52,6 +59,7 @@ pub fn product(a: u32, b: u32) -> u32
 }
 
 /// MULH: the high 32 bits, signed by signed.
+#[inline(always)]
 pub fn mulh(a: u32, b: u32) -> u32
     ensures { result ≡ mulh_of a b }
 {
@@ -60,6 +68,7 @@ pub fn mulh(a: u32, b: u32) -> u32
 }
 
 /// MULHSU: the high 32 bits, signed by unsigned.
+#[inline(always)]
 pub fn mulhsu(a: u32, b: u32) -> u32
     ensures { result ≡ mulhsu_of a b }
 {
@@ -68,13 +77,15 @@ pub fn mulhsu(a: u32, b: u32) -> u32
 }
 
 /// MULHU: the high 32 bits, unsigned by unsigned.
+#[inline(always)]
 pub fn mulhu(a: u32, b: u32) -> u32
     ensures { result ≡ mulhu_of a b }
 {
     ((u64::from(a) * u64::from(b)) >> 32) as u32
 }
 
-/// DIV: rounded towards zero; all ones where `b` is 0.
+/// DIV: rounded towards zero; all ones if `b` is 0.
+#[inline(always)]
 pub fn div(a: u32, b: u32) -> u32
     ensures { result ≡ div_of a b }
 {
@@ -87,7 +98,8 @@ pub fn div(a: u32, b: u32) -> u32
     }
 }
 
-/// REM: with the sign of `a`; `a` where `b` is 0.
+/// REM: with the sign of `a`; `a` if `b` is 0.
+#[inline(always)]
 pub fn rem(a: u32, b: u32) -> u32
     ensures { result ≡ rem_of a b }
 {
@@ -100,14 +112,16 @@ pub fn rem(a: u32, b: u32) -> u32
     }
 }
 
-/// DIVU: all ones where `b` is 0.
+/// DIVU: all ones if `b` is 0.
+#[inline(always)]
 pub fn divu(a: u32, b: u32) -> u32
     ensures { result ≡ divu_of a b }
 {
     if b == 0 { u32::MAX } else { a / b }
 }
 
-/// REMU: `a` where `b` is 0.
+/// REMU: `a` if `b` is 0.
+#[inline(always)]
 pub fn remu(a: u32, b: u32) -> u32
     ensures { result ≡ remu_of a b }
 {

@@ -1,45 +1,49 @@
 //! What one decoded instruction does, before the guard.
-ghost use Rattle.std.specs.Prelude.{◌≡◌, ℕ, ◌+◌, ◌-◌, ◌*◌, ◌/◌, ◌%◌, ◌^◌, ◌<◌, ◌≤◌, slice_index};
+ghost use Rattle.std.specs.Prelude.{◌≡◌, slice_index};
 
 use crate::arithmetic;
 use crate::subword::Width;
 use plural_isa::{BranchOp, ImmOp, Instr, LoadOp, Reg, RegOp, StoreOp};
 
+/// A load access: how much of its word it takes and with which extension, the byte address, and the register that it
+/// fills.
+#[derive(Clone, Copy)]
+pub struct Load {
+    pub width: Width,
+    pub sign: bool,
+    pub address: u32,
+    pub rd: Reg,
+}
+
+/// A store access: how much of its word it changes, the byte address, and the value whose low bytes it stores.
+#[derive(Clone, Copy)]
+pub struct Store {
+    pub width: Width,
+    pub address: u32,
+    pub value: u32,
+}
+
 /// What an instruction does over the registers and the pc.
 #[derive(Clone, Copy)]
 pub enum Action {
     /// Writes a register and goes to a pc.
-    Go {
-        rd: Reg,
-        value: u32,
-        pc: u32,
-    },
+    Go { rd: Reg, value: u32, pc: u32 },
     /// Loads from a byte address.
-    Read {
-        width: Width,
-        sign: bool,
-        address: u32,
-        rd: Reg,
-    },
+    Read(Load),
     /// Stores to a byte address.
-    Write {
-        width: Width,
-        address: u32,
-        value: u32,
-    },
+    Write(Store),
     /// `ecall`.
     Finish,
     /// Can't complete.
-    Trap {
-        cause: u8,
-    },
+    Trap { cause: u8 },
 }
 
-ghost use Rattle.plural_core.specs.Arithmetic.{word, sum_of};
-ghost use Rattle.plural_core.specs.Act.{get, put, address_of, next, jump, branch};
+ghost use Rattle.plural_core.specs.Arithmetic.{word};
+ghost use Rattle.plural_core.specs.Act.{get, address_of, next, jump, branch};
 ghost use Rattle.plural_core.specs.Execution.{is_taken, load_width, load_sign, store_width, imm_value, reg_value, effect_of, seen};
 
 /// What a register reads; the word of x0 is kept 0.
+#[inline(always)]
 pub(crate) fn register(registers: &[u32; 32], reg: Reg) -> u32
     requires zero { slice_index registers.now 0 ≡ 0 }
     ensures { result ≡ get registers.now reg }
@@ -48,6 +52,7 @@ pub(crate) fn register(registers: &[u32; 32], reg: Reg) -> u32
 }
 
 /// Whether a branch is taken. (RV32I 2.1, section 2.5.)
+#[inline(always)]
 fn is_taken(op: BranchOp, x: u32, y: u32) -> bool
     ensures { result ≡ is_taken op x y }
 {
@@ -62,6 +67,7 @@ fn is_taken(op: BranchOp, x: u32, y: u32) -> bool
 }
 
 /// How much of its word a load takes. (RV32I 2.1, section 2.6.)
+#[inline(always)]
 fn load_width(op: LoadOp) -> Width
     ensures { result ≡ load_width op }
 {
@@ -73,6 +79,7 @@ fn load_width(op: LoadOp) -> Width
 }
 
 /// Whether a load extends the sign. (RV32I 2.1, section 2.6.)
+#[inline(always)]
 fn load_sign(op: LoadOp) -> bool
     ensures { result ≡ load_sign op }
 {
@@ -80,6 +87,7 @@ fn load_sign(op: LoadOp) -> bool
 }
 
 /// How much of its word a store changes. (RV32I 2.1, section 2.6.)
+#[inline(always)]
 fn store_width(op: StoreOp) -> Width
     ensures { result ≡ store_width op }
 {
@@ -91,6 +99,7 @@ fn store_width(op: StoreOp) -> Width
 }
 
 /// The value of a register and an immediate. (RV32I 2.1, section 2.4.)
+#[inline(always)]
 fn imm_value(op: ImmOp, x: u32, y: u32) -> u32
     ensures { result ≡ imm_value op x y }
 {
@@ -108,6 +117,7 @@ fn imm_value(op: ImmOp, x: u32, y: u32) -> u32
 }
 
 /// The value of two registers. (RV32I 2.1, section 2.4; M 2.0.)
+#[inline(always)]
 fn reg_value(op: RegOp, x: u32, y: u32) -> u32
     ensures { result ≡ reg_value op x y }
 {
@@ -134,6 +144,7 @@ fn reg_value(op: RegOp, x: u32, y: u32) -> u32
 }
 
 /// The bits of a signed number.
+#[inline(always)]
 fn word(number: i32) -> u32
     ensures { result ≡ word number }
 {
@@ -141,6 +152,7 @@ fn word(number: i32) -> u32
 }
 
 /// The byte address that a base register and an offset give.
+#[inline(always)]
 fn address(registers: &[u32; 32], rs1: Reg, imm: i32) -> u32
     requires zero { slice_index registers.now 0 ≡ 0 }
     ensures { result ≡ address_of registers.now rs1 imm }
@@ -148,7 +160,8 @@ fn address(registers: &[u32; 32], rs1: Reg, imm: i32) -> u32
     arithmetic::sum(register(registers, rs1), word(imm))
 }
 
-/// A jump that leaves the next pc in `rd`, or a trap where the target isn't aligned.
+/// A jump that leaves the next pc in `rd`, or a trap if the target isn't aligned.
+#[inline(always)]
 fn jump(rd: Reg, pc: u32, target: u32) -> Action
     ensures { (x : _) → seen x result ≡ jump x pc rd target }
 {
@@ -164,6 +177,7 @@ fn jump(rd: Reg, pc: u32, target: u32) -> Action
 }
 
 /// A value in `rd`, and on to the next instruction.
+#[inline(always)]
 fn next(rd: Reg, pc: u32, value: u32) -> Action
     ensures { (x : _) → seen x result ≡ next x pc rd value }
 {
@@ -175,6 +189,7 @@ fn next(rd: Reg, pc: u32, value: u32) -> Action
 }
 
 /// On to the target or to the next instruction.
+#[inline(always)]
 fn branch(pc: u32, taken: bool, offset: i32) -> Action
     ensures { (x : _) → seen x result ≡ branch x pc taken offset }
 {
@@ -200,6 +215,7 @@ fn branch(pc: u32, taken: bool, offset: i32) -> Action
 
 /// What the instruction does over these registers at this pc.
 #[tactic(auto, unfolding(crate::specs::Execution::effect_of))]
+#[inline(always)]
 pub(crate) fn execute(instr: Instr, registers: &[u32; 32], pc: u32) -> Action
     requires zero { slice_index registers.now 0 ≡ 0 }
     ensures { seen registers.now result ≡ effect_of instr registers.now pc }
@@ -221,17 +237,17 @@ pub(crate) fn execute(instr: Instr, registers: &[u32; 32], pc: u32) -> Action
             let taken = is_taken(op, register(registers, rs1), register(registers, rs2));
             branch(pc, taken, offset)
         }
-        Instr::Load { op, rd, rs1, imm } => Action::Read {
+        Instr::Load { op, rd, rs1, imm } => Action::Read(Load {
             width: load_width(op),
             sign: load_sign(op),
             address: address(registers, rs1, imm),
             rd,
-        },
-        Instr::Store { op, rs1, rs2, imm } => Action::Write {
+        }),
+        Instr::Store { op, rs1, rs2, imm } => Action::Write(Store {
             width: store_width(op),
             address: address(registers, rs1, imm),
             value: register(registers, rs2),
-        },
+        }),
         Instr::OpImm { op, rd, rs1, imm } => {
             next(rd, pc, imm_value(op, register(registers, rs1), word(imm)))
         }

@@ -9,10 +9,10 @@ ghost use Rattle.plural_base.specs.Told.{Foresees};
 ghost use Rattle.plural_core.specs.Turn.{Core, State, going, trapped, finished, loaded, stored, place_of, turn_of, outcome_of};
 
 use crate::end::End;
-use crate::execute::{Action, execute, register};
+use crate::execute::{Action, Load, Store, execute, register};
 use crate::port::DataPort;
 use crate::subword::{Width, merged, part, size};
-use plural_isa::{Code, Reg, decode};
+use plural_isa::{Code, Reg};
 use plural_regions::{Mode, Region};
 use std::marker::Model;
 
@@ -60,8 +60,9 @@ impl Model for Hart {
     ghost invariant = { λ h. (h.budget ≤ 100000000) × (h.count ≤ h.budget) × (h.over ≡ None → h.count < h.budget) × (slice_index h.registers 0 ≡ 0) };
 }
 
-/// The effect of the instruction at pc.
+/// The effect of the instruction at pc. The word is read for its range alone, which the instruction doesn't tell.
 #[tactic(auto, unfolding(crate::specs::Act::act))]
+#[inline(always)]
 fn action(code: &Code, registers: &[u32; 32], pc: u32) -> Action
     requires zero { slice_index registers.now 0 ≡ 0 }
     ensures { seen registers.now result ≡ act code.now registers.now pc }
@@ -69,13 +70,15 @@ fn action(code: &Code, registers: &[u32; 32], pc: u32) -> Action
     if pc >= 4 * code.len() {
         return Action::Trap { cause: 1 };
     }
-    match decode(code.word(pc / 4)) {
+    code.word(pc / 4);
+    match code.instr(pc / 4) {
         None => Action::Trap { cause: 2 },
         Some(instr) => execute(instr, registers, pc),
     }
 }
 
 /// The guard of a load: whether some region has the word.
+#[inline(always)]
 fn may_read(regions: &[Region], k: u32, a: u32) -> bool
     ensures { result ≡ may_read regions.now k a }
 {
@@ -83,6 +86,7 @@ fn may_read(regions: &[Region], k: u32, a: u32) -> bool
 }
 
 /// The guard of a store: whether some write region has the word.
+#[inline(always)]
 fn may_write(regions: &[Region], k: u32, a: u32) -> bool
     ensures { result ≡ may_write regions.now k a }
 {
@@ -100,6 +104,7 @@ impl Hart {
     ghost use Rattle.plural_core.specs.Turn.{going, trapped, finished, outcome_of, place_of, does, turn_of, start_of};
 
     /// The start of an instance: pc at the entry, x10 = k, x11 = q, all other registers 0.
+    #[inline(always)]
     pub fn start(job: Job) -> Hart
         requires budget { 1 ≤ job.budget }
         requires limit { job.budget ≤ 100000000 }
@@ -122,6 +127,7 @@ impl Hart {
     /// One instruction, as the model's turn over what the port holds. A trap changes nothing but the
     /// end.
     #[tactic(auto, unfolding(crate::specs::Turn::turn))]
+    #[inline(always)]
     pub fn turn<P: DataPort>(&mut self, code: &Code, regions: &[Region], port: &mut P) -> Turn
         requires going { self.old.state.over ≡ None }
         requires sound { P.is_sound port.old }
@@ -137,17 +143,8 @@ impl Hart {
     {
         match action(code, &self.registers, self.pc) {
             Action::Go { rd, value, pc } => self.go(rd, value, pc),
-            Action::Read {
-                width,
-                sign,
-                address,
-                rd,
-            } => self.read(regions, port, address, width, sign, rd),
-            Action::Write {
-                width,
-                address,
-                value,
-            } => self.write(regions, port, address, width, value),
+            Action::Read(load) => self.read(regions, port, load),
+            Action::Write(store) => self.write(regions, port, store),
             Action::Finish => self.finish(),
             Action::Trap { cause } => self.trap(cause),
         }
@@ -158,6 +155,7 @@ impl Hart {
     }
 
     /// How many instructions have completed.
+    #[inline(always)]
     pub fn counted(&self) -> u32
         ensures { result ≡ self.now.state.count }
     {
@@ -165,6 +163,7 @@ impl Hart {
     }
 
     /// An instruction completes: writes a register and goes to a pc.
+    #[inline(always)]
     fn go(&mut self, rd: Reg, value: u32, pc: u32)
         requires { self.old.state.over ≡ None }
         ensures { self.new ≡ record self.old { state = going (place_of [] [] self.old) self.old.state (put self.old.state.registers rd value) pc } }
@@ -181,6 +180,7 @@ impl Hart {
     }
 
     /// An instruction traps.
+    #[inline(always)]
     fn trap(&mut self, cause: u8)
         requires { self.old.state.over ≡ None }
         ensures { self.new ≡ record self.old { state = record self.old.state { over = Some (trap cause self.old.state.pc) } } }
@@ -189,6 +189,7 @@ impl Hart {
     }
 
     /// `ecall`.
+    #[inline(always)]
     fn finish(&mut self)
         requires { self.old.state.over ≡ None }
         ensures { self.new ≡ record self.old { state = (finished self.old.state []).state } }
@@ -206,23 +207,22 @@ impl Hart {
     }
 
     /// A load under the guard.
-    fn read<P: DataPort>(
-        &mut self,
-        regions: &[Region],
-        port: &mut P,
-        address: u32,
-        width: Width,
-        sign: bool,
-        rd: Reg,
-    )
+    #[inline(always)]
+    fn read<P: DataPort>(&mut self, regions: &[Region], port: &mut P, load: Load)
         requires going { self.old.state.over ≡ None }
         requires sound { P.is_sound port.old }
         requires lawful { (a : ℕ) → may_read regions.now self.old.k a ≡ true → (P.told port.old).lawful a ≡ true }
         requires loads { (P.counts port.old).reads ≤ self.old.state.count }
-        ensures state { self.new ≡ record self.old { state = (does (place_of [] regions.now self.old) self.old.state (P.told port.old).words (Read address width sign rd)).state } }
+        ensures state { self.new ≡ record self.old { state = (does (place_of [] regions.now self.old) self.old.state (P.told port.old).words (Read load.address load.width load.sign load.rd)).state } }
         ensures port { Makes P.told P.counts P.stands_for P.keeps P.is_sound port.old port.new
-            (does (place_of [] regions.now self.old) self.old.state (P.told port.old).words (Read address width sign rd)) }
+            (does (place_of [] regions.now self.old) self.old.state (P.told port.old).words (Read load.address load.width load.sign load.rd)) }
     {
+        let Load {
+            width,
+            sign,
+            address,
+            rd,
+        } = load;
         if address % size(width) != 0 {
             self.trap(4);
         } else if !may_read(regions, self.k, address / 4) {
@@ -236,24 +236,23 @@ impl Hart {
     }
 
     /// A store under the guard; of less than a word it loads its word first.
-    fn write<P: DataPort>(
-        &mut self,
-        regions: &[Region],
-        port: &mut P,
-        address: u32,
-        width: Width,
-        value: u32,
-    )
+    #[inline(always)]
+    fn write<P: DataPort>(&mut self, regions: &[Region], port: &mut P, store: Store)
         requires going { self.old.state.over ≡ None }
         requires sound { P.is_sound port.old }
         requires lawful { (a : ℕ) → may_read regions.now self.old.k a ≡ true → (P.told port.old).lawful a ≡ true }
         requires loads { (P.counts port.old).reads ≤ self.old.state.count }
         requires stores { (P.counts port.old).writes ≤ self.old.state.count }
-        requires expected { Foresees (P.told port.old).expects (does (place_of [] regions.now self.old) self.old.state (P.told port.old).words (Write address width value)).stores }
-        ensures state { self.new ≡ record self.old { state = (does (place_of [] regions.now self.old) self.old.state (P.told port.old).words (Write address width value)).state } }
+        requires expected { Foresees (P.told port.old).expects (does (place_of [] regions.now self.old) self.old.state (P.told port.old).words (Write store.address store.width store.value)).stores }
+        ensures state { self.new ≡ record self.old { state = (does (place_of [] regions.now self.old) self.old.state (P.told port.old).words (Write store.address store.width store.value)).state } }
         ensures port { Makes P.told P.counts P.stands_for P.keeps P.is_sound port.old port.new
-            (does (place_of [] regions.now self.old) self.old.state (P.told port.old).words (Write address width value)) }
+            (does (place_of [] regions.now self.old) self.old.state (P.told port.old).words (Write store.address store.width store.value)) }
     {
+        let Store {
+            width,
+            address,
+            value,
+        } = store;
         if address % size(width) != 0 {
             self.trap(6);
         } else if !may_write(regions, self.k, address / 4) {

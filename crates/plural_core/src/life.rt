@@ -12,6 +12,7 @@ use plural_isa::Code;
 use plural_regions::Region;
 
 /// Runs an instance from where it is to its end, which comes within its budget.
+#[inline(always)]
 pub fn run<P: DataPort>(hart: &mut Hart, code: &Code, regions: &[Region], port: &mut P) -> End
     requires going { hart.old.state.over ≡ None }
     requires room { hart.old.state.count < hart.old.budget }

@@ -14,6 +14,7 @@ pub enum Width {
 }
 
 /// The size in bytes.
+#[inline(always)]
 pub(crate) fn size(width: Width) -> u32
     ensures value { result ≡ size_of width }
     ensures positive { 0 < result }
@@ -26,6 +27,7 @@ pub(crate) fn size(width: Width) -> u32
 }
 
 /// The byte of the word at a byte address.
+#[inline(always)]
 fn byte_at(word: u32, address: u32) -> u8
     ensures { result ≡ byte_at word address }
 {
@@ -33,6 +35,7 @@ fn byte_at(word: u32, address: u32) -> u8
 }
 
 /// A number below `2 * half` as a word, with its sign or without.
+#[inline(always)]
 fn widened(sign: bool, half: u32, number: u32) -> u32
     requires half { half ≤ 0x8000 }
     requires number { number < 2 * half }
@@ -46,6 +49,7 @@ fn widened(sign: bool, half: u32, number: u32) -> u32
 }
 
 /// What a load at the address takes from the word.
+#[inline(always)]
 pub(crate) fn part(width: Width, sign: bool, word: u32, address: u32) -> u32
     requires { address % size_of width ≡ 0 }
     ensures { result ≡ part_of width sign word address }
@@ -62,6 +66,7 @@ pub(crate) fn part(width: Width, sign: bool, word: u32, address: u32) -> u32
 }
 
 /// The word with the bytes of a store at the address.
+#[inline(always)]
 pub(crate) fn merged(width: Width, word: u32, address: u32, value: u32) -> u32
     requires { address % size_of width ≡ 0 }
     ensures { result ≡ merged width word address value }

@@ -4,10 +4,9 @@ ghost use Rattle.std.specs.Prelude.{◌≤◌};
 use std::default::Default;
 
 /// What a region lets an instance do.
-#[derive(Clone, Copy, Debug, Default, PartialEq, Eq)]
+#[derive(Clone, Copy, Debug, PartialEq, Eq)]
 pub enum Mode {
     /// Load its words.
-    #[default]
     Read,
     /// Load and store its words.
     Write,
@@ -66,6 +65,7 @@ impl Region {
     ghost use Rattle.plural_regions.specs.Bounds.{IsInside, IsOutside, AllInside, IsLeastOutside};
 
     /// Whether word `a` is a word of instance `k`.
+    #[inline(always)]
     pub fn contains(&self, k: u32, a: u32) -> bool
         ensures member { IsTrue result ↔ IsIn self.now k a }
         ensures test { result ≡ is_in self.now k a }
@@ -74,6 +74,7 @@ impl Region {
     }
 
     /// The first word of instance `k`.
+    #[inline(always)]
     pub(crate) fn start(&self, k: u32) -> u64
         ensures { result ≡ self.now.base + self.now.stride * k }
     {
@@ -81,6 +82,7 @@ impl Region {
     }
 
     /// Whether word `a` lies from the first word of instance `k` to the last.
+    #[inline(always)]
     fn spans(&self, k: u32, a: u32) -> bool
         ensures { result ≡ is_in self.now k a }
     {

@@ -41,6 +41,7 @@ impl<B: Bus> DataPort for Cached<'_, B> {
         self.cache.load(self.bus, a)
     }
 
+    #[inline(always)]
     fn store(&mut self, a: u32, v: u32) {
         self.cache.store(self.bus, a, v);
     }

@@ -6,7 +6,7 @@ use Rattle.plural_core.proofs.hart.Hart.write.Goals.{in-Word, in_default}
 
 pub load-requires : goal.load-requires
 load-requires g c =
-    let a = c.args.address / 4 in
+    let a = c.args.store.address / 4 in
     let k_is = ap (λ v. v.k) c.self.view_is in
     let allowed : may_write c.args.regions.now c.args.self.now.k a ≡ true = cc in
     record {
@@ -17,7 +17,7 @@ load-requires g c =
 
 pub store-requires-clause-within : goal.store-requires-clause-within
 store-requires-clause-within g c =
-    let a = c.args.address / 4 in
+    let a = c.args.store.address / 4 in
     let k_is = ap (λ v. v.k) c.self.view_is in
     let allowed : may_write c.args.regions.now c.args.self.now.k a ≡ true = cc in
     let within = g.met.P.DataPort.within c.args.port.now a (c.requires.lawful a (may_read_from_write c.args.regions.now c.args.self.now.k a allowed)) in
