@@ -2,17 +2,15 @@
 use Rattle.std.proofs.Common.{ℕ, ◌≡◌, ◌≢◌, ◌⊎◌, ◌<◌, ◌≤◌, true, false, List, [], length, get_or, Option, Some, None, sym, ap, ◌∙◌, subst, inl, inr, ⊎_elim, arith, eq-eqb}
 use Rattle.std.specs.Prelude.{◌==◌, slice_get, IfSome, IfNone, is_some}
 use Rattle.std.specs.List.{All}
-use Rattle.std.specs.Option.{option_map_or}
 use Rattle.std.proofs.lemmas.Bool.{cases_lt, cases_eq, eqb-true}
-use Rattle.std.proofs.lemmas.Option.{slice_get_cases}
-use Rattle.std.proofs.lemmas.List.{get_or_default}
+use Rattle.std.proofs.lemmas.List.{get_or_default, get_or_past}
 use Rattle.plural_regions.specs.declared.region.Region.{Region}
 use Rattle.plural_regions.specs.declared.triple.Meet.{Meet}
 use Rattle.plural_regions.specs.Rights.{IsIn, InReads}
 use Rattle.plural_regions.specs.Bounds.{AllInside}
 use Rattle.plural_regions.specs.Meeting.{Meets}
 use Rattle.plural_regions.proofs.Regions.{reads_iff}
-use Rattle.plural_map.specs.Value.{TaskValue, MapValue}
+use Rattle.plural_map.specs.Value.{TaskValue, MapValue, no_task, task_of}
 use Rattle.plural_map.specs.Limits.{IsTask, IsMap}
 use Rattle.plural_reach.specs.Branches.{NeedsCode, Exclusive}
 use Rattle.plural_crew.specs.declared.accepted.Clash.{Clash}
@@ -22,23 +20,22 @@ use Rattle.plural_crew.proofs.LeastLemmas.{least_same}
 
 -- ---- a task by its number
 
-task_at : (tasks : List TaskValue) (t : ℕ) (task : TaskValue) → t < length tasks → task ≡ get_or tasks t task → slice_get tasks t ≡ Some task
-task_at tasks t task l e = ⊎_elim
-    (λ c. c.2 ∙ ap Some (sym c.3 ∙ (get_or_default tasks t c.0 task l ∙ sym e)))
-    (λ c. absurd (omega (arith, c.0)))
-    ((slice_get_cases tasks t).1)
+task_at : (tasks : List TaskValue) (t : ℕ) (task : TaskValue) → t < length tasks → task ≡ get_or tasks t task → task_of tasks t ≡ task
+task_at tasks t task l e = get_or_default tasks t no_task task l ∙ sym e
 
+-- The regions of a number that is a task's are that task's.
 pub regions_at : (tasks : List TaskValue) (t : ℕ) (task : TaskValue) → t < length tasks → task ≡ get_or tasks t task → regions_of tasks t ≡ task.regions
-regions_at tasks t task l e = ap (λ o. option_map_or (λ (x : TaskValue). x.regions) o []) (task_at tasks t task l e)
+regions_at tasks t task l e = ap (λ (x : TaskValue). x.regions) (task_at tasks t task l e)
 
+-- So are its instances.
 pub quota_at : (tasks : List TaskValue) (t : ℕ) (task : TaskValue) → t < length tasks → task ≡ get_or tasks t task → quota_of tasks t ≡ task.quota
-quota_at tasks t task l e = ap (λ o. option_map_or (λ (x : TaskValue). x.quota) o 0) (task_at tasks t task l e)
+quota_at tasks t task l e = ap (λ (x : TaskValue). x.quota) (task_at tasks t task l e)
 
 -- A number past the tasks has no instances.
 pub quota_past : (tasks : List TaskValue) (t : ℕ) → length tasks ≤ t → quota_of tasks t ≡ 0
-quota_past tasks t h = ⊎_elim (λ c. absurd (omega (arith, c.1))) (λ c. ap (λ o. option_map_or (λ (x : TaskValue). x.quota) o 0) c.1) ((slice_get_cases tasks t).1)
+quota_past tasks t h = ap (λ (x : TaskValue). x.quota) (get_or_past tasks t no_task h)
 
-pub few_instances : (m : MapValue) → IsMap m → (t : ℕ) (task : TaskValue) → t < length m.tasks → task ≡ get_or m.tasks t task → task.quota ≤ 16384
+few_instances : (m : MapValue) → IsMap m → (t : ℕ) (task : TaskValue) → t < length m.tasks → task ≡ get_or m.tasks t task → task.quota ≤ 16384
 few_instances m is t task l e =
     let each : IsTask m.words m.tasks task = subst (λ (x : TaskValue). IsTask m.words m.tasks x) (sym e) (is.each t task l) in
     each.quota_high
@@ -57,7 +54,7 @@ words_inside m is t task l e = λ n d within k below a member.
 one_task : (t u : ℕ) → t ≡ u → (t == u) ≡ true
 one_task t u e = eq-eqb t u e
 
-pub clash_from : (tasks : List TaskValue) (t u k l a : ℕ) → t ≤ u → MayOverlap tasks t u → SomeMeet (regions_of tasks t) (quota_of tasks t) (regions_of tasks u) (quota_of tasks u) (t == u) k l a
+clash_from : (tasks : List TaskValue) (t u k l a : ℕ) → t ≤ u → MayOverlap tasks t u → SomeMeet (regions_of tasks t) (quota_of tasks t) (regions_of tasks u) (quota_of tasks u) (t == u) k l a
     → ClashAt tasks t u k l a
 clash_from tasks t u k l a ordered overlap h =
     let r = h.1 in let h' = h.4 in let s = h'.1 in
@@ -75,7 +72,7 @@ clash_from tasks t u k l a ordered overlap h =
       record { tasks = ordered; instances = λ e. m.in_order (one_task t u e) },
     )
 
-pub clash_to : (tasks : List TaskValue) (t u k l a : ℕ) → ClashAt tasks t u k l a → SomeMeet (regions_of tasks t) (quota_of tasks t) (regions_of tasks u) (quota_of tasks u) (t == u) k l a
+clash_to : (tasks : List TaskValue) (t u k l a : ℕ) → ClashAt tasks t u k l a → SomeMeet (regions_of tasks t) (quota_of tasks t) (regions_of tasks u) (quota_of tasks u) (t == u) k l a
 clash_to tasks t u k l a h = ⊎_elim
     (λ w. let s = h.0.second_reads in (w.0, w.1, w.2, w.3, (s.0, s.1, s.2, s.3, (inl w.4.0, meets w.1 s.1 w.4.1 s.4))))
     (λ w. let r = h.0.first_reads in (r.0, r.1, r.2, r.3, (w.0, w.1, w.2, w.3, (inr w.4.0, meets r.1 w.1 r.4 w.4.1))))
@@ -90,7 +87,7 @@ clash_to tasks t u k l a h = ⊎_elim
       in_second = q;
     }
 
--- Where the two may overlap, the least meeting of their regions is the least clash.
+-- If the two may overlap, the least meeting of their regions is the least clash.
 pub clash_least : (tasks : List TaskValue) (t u : ℕ) (o : Option Meet) → t ≤ u → MayOverlap tasks t u → IsLeastOf (SomeMeet (regions_of tasks t) (quota_of tasks t) (regions_of tasks u) (quota_of tasks u) (t == u)) o
     → IsLeastOf (ClashAt tasks t u) o
 clash_least tasks t u o ordered overlap h = least_same (SomeMeet (regions_of tasks t) (quota_of tasks t) (regions_of tasks u) (quota_of tasks u) (t == u)) (ClashAt tasks t u) o
@@ -102,6 +99,7 @@ clash_least tasks t u o ordered overlap h = least_same (SomeMeet (regions_of tas
 pub none_past : (tasks : List TaskValue) (t u : ℕ) → length tasks ≤ u → NoneClash tasks t u
 none_past tasks t u h = λ k l a c. let e = quota_past tasks u h in let b = c.0.second in omega arith
 
+-- A first task that isn't there clashes with none.
 pub none_past_first : (tasks : List TaskValue) (t u : ℕ) → length tasks ≤ t → NoneClash tasks t u
 none_past_first tasks t u h = λ k l a c. let e = quota_past tasks t h in let b = c.0.first in omega arith
 
@@ -129,7 +127,7 @@ clash_turned tasks t k u l a c = record {
   writes = ⊎_elim (λ w. inr w) (λ w. inl w) c.writes;
 }
 
--- Where no two tasks clash in normal order, none clash.
+-- If no two tasks clash in normal order, none clash.
 pub accepted_from : (tasks : List TaskValue) → ((t u : ℕ) → NoneClash tasks t u) → IsAccepted tasks
 accepted_from tasks none t k u l a c = ⊎_elim
     (λ (h : t < u). none t u k l a (c, record { tasks = omega arith; instances = λ e. absurd (omega arith) }))
@@ -151,7 +149,7 @@ accepted_from tasks none t k u l a c = ⊎_elim
 
 -- ---- the first clash
 
-pub first_of : (tasks : List TaskValue) (t u k l a : ℕ) → IsLeastWith (ClashAt tasks t u) k l a → ((w : ℕ) → w < u → NoneClash tasks t w) → ((v : ℕ) → v < t → (w : ℕ) → NoneClash tasks v w)
+first_of : (tasks : List TaskValue) (t u k l a : ℕ) → IsLeastWith (ClashAt tasks t u) k l a → ((w : ℕ) → w < u → NoneClash tasks t w) → ((v : ℕ) → v < t → (w : ℕ) → NoneClash tasks v w)
     → IsFirstClash tasks t k u l a
 first_of tasks t u k l a h with_first earlier = record {
   clash = h.has.0;
@@ -167,6 +165,7 @@ pub found_first : (tasks : List TaskValue) (t : ℕ) (o : Option Clash) → ((v 
 found_first tasks t None earlier task found first = found
 found_first tasks t (Some c) earlier task found first = subst (λ (x : ℕ). IsFirstClash tasks x c.k c.u c.l c.a) (sym task) (first_of tasks t c.u c.k c.l c.a found first earlier)
 
+-- If a search found nothing, what holds then holds.
 pub none_found : {X : Type 0} {P : Type 0} (o : Option X) → false ≡ is_some o → IfNone o P → P
 none_found None e h = h
 none_found (Some x) e h = absurd cc

@@ -37,7 +37,7 @@ least_same P Q None to from h = λ k l a q. h k l a (from k l a q)
 least_same P Q (Some m) to from h = record { has = to m.k m.l m.a h.has; least = λ i j b q. h.least i j b (from i j b q) }
 
 -- Of two properties the lesser of the least triples is the least with either.
-pub lesser_of : (P Q : ℕ → ℕ → ℕ → Type 0) (x y : Option Meet) → IsLeastOf P x → IsLeastOf Q y → IsLeastOf (λ k l a. P k l a ⊎ Q k l a) (lesser x y)
+lesser_of : (P Q : ℕ → ℕ → ℕ → Type 0) (x y : Option Meet) → IsLeastOf P x → IsLeastOf Q y → IsLeastOf (λ k l a. P k l a ⊎ Q k l a) (lesser x y)
 lesser_of P Q None None p q = λ k l a. ⊎_elim (p k l a) (q k l a)
 lesser_of P Q None (Some n) p q = record { has = inr q.has; least = λ i j b. ⊎_elim (λ h. absurd (p i j b h)) (q.least i j b) }
 lesser_of P Q (Some m) None p q = record { has = inl p.has; least = λ i j b. ⊎_elim (p.least i j b) (λ h. absurd (q i j b h)) }
@@ -55,6 +55,7 @@ lesser_of P Q (Some m) (Some n) p q = by_test (is_less n m) refl
 
 -- ---- along a list
 
+-- Among no elements there is no least triple.
 pub least_none : {X : Type 0} (P : X → ℕ → ℕ → ℕ → Type 0) (xs : List X) → IsLeastOf (λ k l a. Any (λ x. P x k l a) (take 0 xs)) None
 least_none P xs = λ k l a h. let within : h.0 < length (take 0 xs) = h.2 in nothing h.0 within
   where
@@ -71,6 +72,7 @@ least_more P xs n d x y l p q = least_same (λ k l a. Any (λ z. P z k l a) (tak
 
 -- ---- one meeting
 
+-- The least meeting of two regions of which one is written is the least at which they meet so.
 pub least_of_meet : (r : Region) (q1 : ℕ) (s : Region) (q2 : ℕ) (same_task : Bool) (o : Option Meet) → OneWrites r s
     → IfSome o (λ m. IsLeastMeet r q1 s q2 same_task m.k m.l m.a) → IfNone o (NeverMeet r q1 s q2 same_task) → IsLeastOf (MeetWriting r q1 s q2 same_task) o
 least_of_meet r q1 s q2 same_task None w found none = λ k l a h. none k l a h.1

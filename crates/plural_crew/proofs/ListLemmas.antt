@@ -5,7 +5,7 @@ use Rattle.std.proofs.lemmas.Bool.{cases_lt}
 use Rattle.std.proofs.lemmas.List.{length-take-le, get_or-take}
 use Rattle.std.proofs.lemmas.List.{get_or_default}
 
--- Of the first n + 1 elements some one has it where one of the first n does, or the element at n.
+-- Of the first n + 1 elements some one has it if one of the first n does, or the element at n.
 pub any_more : {X : Type 0} (P : X → Type 0) (xs : List X) (n : ℕ) (d : X) → n < length xs → Any P (take (n + 1) xs) → Any P (take n xs) ⊎ P (get_or xs n d)
 any_more P xs n d l h =
     let whole = length-take-le (n + 1) xs (omega arith) in

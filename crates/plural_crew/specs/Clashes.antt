@@ -1,20 +1,19 @@
 -- Clashes: two instances that may run at the same time have a word in common that one of them may write.
-use Rattle.std.specs.Prelude.{ℕ, ◌≡◌, ◌≢◌, ◌⊎◌, ◌<◌, ◌≤◌, List, [], slice_get}
-use Rattle.std.specs.Option.{option_map_or}
+use Rattle.std.specs.Prelude.{ℕ, ◌≡◌, ◌≢◌, ◌⊎◌, ◌<◌, ◌≤◌, List}
 use Rattle.plural_regions.specs.declared.region.Region.{Region}
 use Rattle.plural_regions.specs.Rights.{InReads, InWrites}
 use Rattle.plural_regions.specs.Meeting.{IsNoLater}
-use Rattle.plural_map.specs.Value.{TaskValue}
+use Rattle.plural_map.specs.Value.{TaskValue, task_of}
 use Rattle.plural_reach.specs.Chains.{Before}
 use Rattle.plural_reach.specs.Branches.{Exclusive}
 
 -- The regions of the task of this number; a number without a task has none.
 abbrev pub regions_of : List TaskValue → ℕ → List Region
-regions_of tasks t = option_map_or (λ task. task.regions) (slice_get tasks t) []
+regions_of tasks t = (task_of tasks t).regions
 
 -- How many instances the task of this number has; a number without a task has none.
 abbrev pub quota_of : List TaskValue → ℕ → ℕ
-quota_of tasks t = option_map_or (λ task. task.quota) (slice_get tasks t) 0
+quota_of tasks t = (task_of tasks t).quota
 
 -- Instances of the tasks may run at the same time: the two are one task, or neither comes before the other and they
 -- aren't exclusive branches.

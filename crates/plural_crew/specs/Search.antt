@@ -12,7 +12,7 @@ pub record IsLeastWith (P : ℕ → ℕ → ℕ → Type 0) (k l a : ℕ) : Type
   pub has : P k l a
   pub least : (i j b : ℕ) → P i j b → IsNoLater k l a i j b
 
--- The least triple that has the property, or none where none has it.
+-- The least triple that has the property, or none if none has it.
 abbrev pub IsLeastOf : (ℕ → ℕ → ℕ → Type 0) → Option Meet → Type 0
 IsLeastOf P o = MatchOption o ((k l a : ℕ) → P k l a → ⊥) (λ m. IsLeastWith P m.k m.l m.a)
 
@@ -36,7 +36,7 @@ SomeMeet rs q1 ss q2 same_task k l a = Any (λ r. MeetsSome r q1 ss q2 same_task
 abbrev pub is_less : Meet → Meet → Bool
 is_less m n = nat_lt m.k n.k || (m.k == n.k && (nat_lt m.l n.l || (m.l == n.l && nat_lt m.a n.a)))
 
--- The lesser of two triples, where they are there.
+-- The lesser of two triples, if they are there.
 abbrev pub lesser : Option Meet → Option Meet → Option Meet
 lesser None o = o
 lesser (Some m) None = Some m

@@ -1,8 +1,8 @@
 //! The first clash of a map.
-ghost use Rattle.std.specs.Prelude.{◌≡◌, ◌<◌, ◌≤◌, ℕ, true, false, List, length, IsTrue, IfOk, IfErr, IfSome, IfNone};
+ghost use Rattle.std.specs.Prelude.{◌≡◌, ◌<◌, ◌≤◌, ℕ, true, false, List, length, IfOk, IfErr, IfSome, IfNone};
 ghost use Rattle.plural_map.specs.Value.{TaskValue};
 ghost use Rattle.plural_reach.specs.Tables.{IsReachOf, IsNeedsOf};
-ghost use Rattle.plural_crew.specs.Clashes.{MayOverlap, IsClash, InOrder, IsAccepted, IsFirstClash};
+ghost use Rattle.plural_crew.specs.Clashes.{MayOverlap, IsAccepted, IsFirstClash};
 ghost use Rattle.plural_crew.specs.Search.{IsLeastOf, IsLeastWith, ClashAt, NoneClash};
 
 use crate::accepted::{Accepted, Clash};
@@ -15,8 +15,10 @@ use plural_regions::Meet;
 fn may_overlap(reach: &Reach, needs: &Needs, t: u32, u: u32) -> bool
     requires first { t < 256 }
     requires second { u < 256 }
-    ensures yes { (tasks : List TaskValue) → IsReachOf reach.now tasks → IsNeedsOf needs.now tasks → t < length tasks → u < length tasks → result ≡ true → MayOverlap tasks t u }
-    ensures no { (tasks : List TaskValue) → IsReachOf reach.now tasks → IsNeedsOf needs.now tasks → t < length tasks → u < length tasks → result ≡ false → MayOverlap tasks t u → ⊥ }
+    ensures yes { (tasks : List TaskValue) → IsReachOf reach.now tasks → IsNeedsOf needs.now tasks
+        → t < length tasks → u < length tasks → result ≡ true → MayOverlap tasks t u }
+    ensures no { (tasks : List TaskValue) → IsReachOf reach.now tasks → IsNeedsOf needs.now tasks
+        → t < length tasks → u < length tasks → result ≡ false → MayOverlap tasks t u → ⊥ }
 {
     t == u || !(reach.before(t, u) || reach.before(u, t) || needs.exclusive(t, u))
 }
@@ -84,12 +86,12 @@ fn first_clash(map: &Map, reach: &Reach, needs: &Needs) -> Option<Clash>
 pub fn check<'m>(map: &'m Map, reach: &'m Reach, needs: &'m Needs) -> Result<Accepted<'m>, Clash>
     requires reach { IsReachOf reach.now map.now.tasks }
     requires needs { IsNeedsOf needs.now map.now.tasks }
-    ensures map { IfOk result (λ accepted. accepted.map.now ≡ map.now) }
+    ensures map { IfOk result (λ accepted. accepted ≡ map.now) }
     ensures accepted { IfOk result (λ _. IsAccepted map.now.tasks) }
     ensures clash { IfErr result (λ c. IsFirstClash map.now.tasks c.t c.k c.u c.l c.a) }
 {
     match first_clash(map, reach, needs) {
-        None => Ok(Accepted { map }),
+        None => Ok(Accepted::of(map)),
         Some(clash) => Err(clash),
     }
 }

@@ -12,7 +12,7 @@ fn is_less(m: Meet, n: Meet) -> bool
     m.k < n.k || m.k == n.k && (m.l < n.l || m.l == n.l && m.a < n.a)
 }
 
-/// The lesser of two meetings, where they are there.
+/// The lesser of two meetings, if they are there.
 fn lesser(first: Option<Meet>, second: Option<Meet>) -> Option<Meet>
     ensures { result ≡ lesser first second }
 {
@@ -31,7 +31,7 @@ fn one_writes(r: &Region, s: &Region) -> bool
     r.mode == Mode::Write || s.mode == Mode::Write
 }
 
-/// The least meeting of two regions, where one of them is a write region.
+/// The least meeting of two regions, if one of them is a write region.
 fn meet_writing(r: &Region, q1: u32, s: &Region, q2: u32, same_task: bool) -> Option<Meet>
     requires first_quota { q1 ≤ 16384 }
     requires second_quota { q2 ≤ 16384 }

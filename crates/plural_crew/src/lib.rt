@@ -1,11 +1,10 @@
 //! The checker of clashes: concurrent reads, exclusive writes.
 //!
-//! Promise: `check` accepts a map exactly where no two instances that may run at the same time share
-//! a word that one of them may write, and otherwise names the first clash (`specs/Clashes.antt`). An
-//! `Accepted` keeps in its type that its map has no clash.
-//! Stands on `plural_regions` (the least meeting of two regions), `plural_map` (tasks) and
-//! `plural_reach` (which tasks are ordered, and which exclusive). The shared words and the cores run
-//! accepted maps alone.
+//! Promise: `check` accepts a map exactly if no two instances that may run at the same time share a word that one of
+//! them may write, and otherwise names the first clash (`specs/Clashes.antt`). An `Accepted` is seen as its map, and
+//! keeps in its type that the map has no clash.
+//! Stands on `plural_regions` (the least meeting of two regions), `plural_map` (tasks) and `plural_reach` (which tasks
+//! are ordered, and which exclusive). The program runs accepted maps alone.
 #![tactic(auto)]
 
 mod accepted;

@@ -10,6 +10,7 @@ use Rattle.plural_regions.proofs.Regions.{reads_iff, writes_iff}
 use Rattle.plural_map.specs.Value.{TaskValue}
 use Rattle.plural_reach.specs.Chains.{DependsOn, Before}
 use Rattle.plural_reach.specs.Branches.{NeedsCode, Exclusive}
+use Rattle.plural_crew.proofs.ClashLemmas.{quota_past}
 use Rattle.plural_crew.specs.Clashes.{regions_of, quota_of, MayOverlap, IsClash, IsAccepted}
 use Rattle.plural_generator.specs.Tasks.{fir_task, top_task, loud_task, quiet_task, made_tasks, made_map}
 use Rattle.plural_generator.specs.Laws.{MadeAccepted}
@@ -136,7 +137,7 @@ number_below t k h = by_task (slice_get_cases made_tasks t).1
   where
     by_task : ((x : TaskValue) × (t < 6) × (slice_get made_tasks t ≡ Some x) × (get_or made_tasks t x ≡ x)) ⊎ ((6 ≤ t) × (slice_get made_tasks t ≡ None)) → t < 6
     by_task (inl c) = c.1
-    by_task (inr c) = absurd (omega (arith, rw c.1 at h))
+    by_task (inr c) = absurd (omega (arith, h, quota_past made_tasks t c.0))
 
 fir_apart : WritesApart 0
 fir_apart k l a hk hl n w r = fir_writes_apart k l a hk hl n ((writes_iff fir_task.regions k a).1 w) ((reads_iff fir_task.regions l a).1 r)

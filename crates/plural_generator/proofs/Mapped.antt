@@ -9,7 +9,7 @@ use Rattle.plural_map.specs.declared.outcome.Dep.{Dep}
 use Rattle.plural_map.specs.Value.{TaskValue, MapValue}
 use Rattle.plural_map.specs.Limits.{IsTask, IsMap}
 use Rattle.plural_map.specs.Order.{order_from, order_of}
-use Rattle.plural_map.proofs.Declared.{among_range}
+use Rattle.plural_map.proofs.DeclarationOrder.{among_range}
 use Rattle.plural_map.specs.declared.outcome.When.TheVariants.{Any, Code0, Code1}
 use Rattle.plural_generator.specs.Tasks.{after, fir_task, top_task, best_task, loud_task, quiet_task, done_task, made_tasks, made_map}
 

@@ -5,7 +5,7 @@ ghost use Rattle.plural_generator.specs.Tasks.{reads, writes, after, fir_task, t
 
 use arrayvec::ArrayVec;
 use plural_bytes::{Memory, Name};
-use plural_map::{Dep, Map, Task, When};
+use plural_map::{Dep, Map, Task, TaskParts, When};
 use plural_regions::{Mode, Region};
 use std::alloc::Global;
 
@@ -61,17 +61,17 @@ fn fir() -> Task
     regions.push(reads(0, 16, 31));
     regions.push(reads(16_400, 0, 16));
     regions.push(writes(16_416, 16, 16));
-    let fir = name(b"fir");
-    Task::of(
-        fir,
-        true,
-        1024,
-        fir,
-        10_000,
-        false,
-        ArrayVec::new(),
+    let name = name(b"fir");
+    Task::of(TaskParts {
+        name,
+        dup: true,
+        quota: 1024,
+        entry: name,
+        budget: 10_000,
+        some: false,
+        deps: ArrayVec::new(),
         regions,
-    )
+    })
 }
 
 fn top() -> Task
@@ -80,17 +80,17 @@ fn top() -> Task
     let mut regions = ArrayVec::new();
     regions.push(reads(16_416, 2048, 2048));
     regions.push(writes(32_800, 1, 1));
-    let top = name(b"top");
-    Task::of(
-        top,
-        true,
-        8,
-        top,
-        100_000,
-        false,
-        after(0, When::Any),
+    let name = name(b"top");
+    Task::of(TaskParts {
+        name,
+        dup: true,
+        quota: 8,
+        entry: name,
+        budget: 100_000,
+        some: false,
+        deps: after(0, When::Any),
         regions,
-    )
+    })
 }
 
 fn best() -> Task
@@ -100,17 +100,17 @@ fn best() -> Task
     regions.push(reads(32_800, 0, 8));
     regions.push(reads(32_810, 0, 1));
     regions.push(writes(32_808, 0, 1));
-    let best = name(b"best");
-    Task::of(
-        best,
-        false,
-        1,
-        best,
-        1000,
-        false,
-        after(1, When::Any),
+    let name = name(b"best");
+    Task::of(TaskParts {
+        name,
+        dup: false,
+        quota: 1,
+        entry: name,
+        budget: 1000,
+        some: false,
+        deps: after(1, When::Any),
         regions,
-    )
+    })
 }
 
 fn loud() -> Task
@@ -118,17 +118,17 @@ fn loud() -> Task
 {
     let mut regions = ArrayVec::new();
     regions.push(writes(32_809, 0, 1));
-    let loud = name(b"loud");
-    Task::of(
-        loud,
-        false,
-        1,
-        loud,
-        100,
-        false,
-        after(2, When::Code1),
+    let name = name(b"loud");
+    Task::of(TaskParts {
+        name,
+        dup: false,
+        quota: 1,
+        entry: name,
+        budget: 100,
+        some: false,
+        deps: after(2, When::Code1),
         regions,
-    )
+    })
 }
 
 fn quiet() -> Task
@@ -136,17 +136,17 @@ fn quiet() -> Task
 {
     let mut regions = ArrayVec::new();
     regions.push(writes(32_811, 0, 1));
-    let quiet = name(b"quiet");
-    Task::of(
-        quiet,
-        false,
-        1,
-        quiet,
-        100,
-        false,
-        after(2, When::Code0),
+    let name = name(b"quiet");
+    Task::of(TaskParts {
+        name,
+        dup: false,
+        quota: 1,
+        entry: name,
+        budget: 100,
+        some: false,
+        deps: after(2, When::Code0),
         regions,
-    )
+    })
 }
 
 fn done() -> Task
@@ -161,8 +161,17 @@ fn done() -> Task
     regions.push(reads(32_809, 0, 1));
     regions.push(reads(32_811, 0, 1));
     regions.push(writes(32_812, 0, 1));
-    let done = name(b"done");
-    Task::of(done, false, 1, done, 100, false, deps, regions)
+    let name = name(b"done");
+    Task::of(TaskParts {
+        name,
+        dup: false,
+        quota: 1,
+        entry: name,
+        budget: 100,
+        some: false,
+        deps,
+        regions,
+    })
 }
 
 fn tasks(alloc: Global) -> Result<Vec<Task>, Memory>

@@ -1,3 +1,3 @@
 pub mod OrderLemmas
-pub mod Declared
+pub mod DeclarationOrder
 pub mod Lookups

@@ -10,19 +10,22 @@ use Rattle.plural_base.proofs.ListTests.{unwrap_found}
 use Rattle.plural_map.specs.Value.{TaskValue}
 use Rattle.plural_map.specs.Lookup.{number_of, name_at, has_task}
 
--- The first place of a name, or the length where there is none, is its number.
+-- The first place of a name, or the length if there is none, is its number.
 pub found : (ts : List TaskValue) (n : List ℕ) → unwrap_or (position (λ t. bytes_eq t.name n) ts) (length ts) ≡ number_of n ts
 found ts n = unwrap_found (λ t. bytes_eq t.name n) ts
 
+-- A name is the same as itself.
 pub same_name : (a : List ℕ) → bytes_eq a a ≡ true
 same_name a = (bytes_eq-Decides a a).1 refl
 
+-- Names that differ aren't the same.
 pub other_name : (a b : List ℕ) → a ≢ b → bytes_eq a b ≡ false
 other_name a b h = false_from_ne_true (bytes_eq a b) (λ e. h ((bytes_eq-Decides a b).0 e))
 
 -- ---- the name of a task by its number
 
-pub name_is : (tasks : List TaskValue) (t : ℕ) (d : TaskValue) → t < length tasks → name_at tasks t ≡ (get_or tasks t d).name
+-- The name of a number below the count is that of the task there.
+name_is : (tasks : List TaskValue) (t : ℕ) (d : TaskValue) → t < length tasks → name_at tasks t ≡ (get_or tasks t d).name
 name_is [] t d l = absurd (omega arith)
 name_is (x ∷ xs) zero d l = refl
 name_is (x ∷ xs) (suc t) d l = name_is xs t d (omega arith)
@@ -59,6 +62,7 @@ number_at (x ∷ xs) (suc t) h l =
 abbrev pub AreNamed : List TaskValue → Type 0
 AreNamed tasks = All (λ (t : TaskValue). IsTrue (is_name t.name)) tasks
 
+-- The name of a number below the count is a name.
 pub named_at : (tasks : List TaskValue) (t : ℕ) → AreNamed tasks → t < length tasks → is_name (name_at tasks t) ≡ true
 named_at [] t h l = absurd (omega arith)
 named_at (x ∷ xs) zero h l = All-head (λ (t : TaskValue). IsTrue (is_name t.name)) x xs h

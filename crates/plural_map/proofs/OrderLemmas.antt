@@ -31,11 +31,11 @@ ready_task tasks done t r = by_task (slice_get tasks t) refl (and_parts (not (is
     by_task (Some task) e h = (task, e, h)
 
 -- A number that is ready is that of a task.
-pub ready_within : (tasks : List TaskValue) (done : List ℕ) (t : ℕ) → is_ready tasks done t ≡ true → t < length tasks
+ready_within : (tasks : List TaskValue) (done : List ℕ) (t : ℕ) → is_ready tasks done t ≡ true → t < length tasks
 ready_within tasks done t r = let h = ready_task tasks done t r in slice_get_within tasks t h.0 h.1
 
 -- The next number is ready.
-pub next_is_ready : (tasks : List TaskValue) (done : List ℕ) (t : ℕ) → next_ready tasks done ≡ Some t → is_ready tasks done t ≡ true
+next_is_ready : (tasks : List TaskValue) (done : List ℕ) (t : ℕ) → next_ready tasks done ≡ Some t → is_ready tasks done t ≡ true
 next_is_ready tasks done t e =
     let p = position-Some (is_ready tasks done) (range_with_len 0 (length tasks)) t 0 e in
     let l : t < length tasks = rw length-range_with_len at p.0 in
@@ -45,11 +45,11 @@ next_is_ready tasks done t e =
 -- ---- the order
 
 -- Each number of a list was ready among those before it.
-pub record IsOrdered (tasks : List TaskValue) (done : List ℕ) : Type 0 where
+record IsOrdered (tasks : List TaskValue) (done : List ℕ) : Type 0 where
   pub ready : (i : ℕ) → i < length done → is_ready tasks (take i done) (get_or done i 0) ≡ true
 
 -- One more number that is ready keeps a list ordered.
-pub ordered_push : (tasks : List TaskValue) (done : List ℕ) (t : ℕ) → IsOrdered tasks done → is_ready tasks done t ≡ true → IsOrdered tasks (done ++ t ∷ [])
+ordered_push : (tasks : List TaskValue) (done : List ℕ) (t : ℕ) → IsOrdered tasks done → is_ready tasks done t ≡ true → IsOrdered tasks (done ++ t ∷ [])
 ordered_push tasks done t o r = record {
   ready = λ i h. ⊎_elim (earlier i) (last i h) (cases_lt i (length done));
 }
@@ -63,7 +63,7 @@ ordered_push tasks done t o r = record {
         rw (take_at done (t ∷ []) i e, get_or_at done t [] 0 i e) r
 
 -- Going on from an ordered list keeps it ordered.
-pub order_from_ordered : (fuel : ℕ) (tasks : List TaskValue) (done : List ℕ) → IsOrdered tasks done → IsOrdered tasks (order_from fuel tasks done)
+order_from_ordered : (fuel : ℕ) (tasks : List TaskValue) (done : List ℕ) → IsOrdered tasks done → IsOrdered tasks (order_from fuel tasks done)
 unfolding order_from
 order_from_ordered zero tasks done o = o
 order_from_ordered (suc fuel) tasks done o = by_next (next_ready tasks done) refl (λ t. order_from_ordered fuel tasks (done ++ t ∷ []))
@@ -93,14 +93,6 @@ among_at [] i h = absurd (omega arith)
 among_at (u ∷ done) zero h = ap (λ b. b || is_among u done) (eq-eqb u u refl)
 among_at (u ∷ done) (suc i) h = or_right (u == get_or done i 0) (is_among (get_or done i 0) done) (among_at done i (omega arith))
 
--- A number is among those done and one more where it is among those done or is that one.
+-- A number is among those done and one more if it is among those done or is that one.
 pub among_push : (done : List ℕ) (t u : ℕ) → is_among u (done ++ t ∷ []) ≡ (is_among u done || (t == u))
 among_push done t u = list_any-append (λ v. v == u) done (t ∷ []) ∙ ap (λ b. is_among u done || b) (or-false (t == u))
-
--- Where all those done have outcomes, the predecessors of a task that is ready do.
-pub predecessors_done : (tasks : List TaskValue) (done : List ℕ) (t : ℕ) (d : TaskValue) (outcomes : List (Option Outcome)) → is_ready tasks done t ≡ true
-    → ((u : ℕ) → is_among u done ≡ true → is_some (outcome_at outcomes u) ≡ true) → HasPredecessors (get_or tasks t d) outcomes
-predecessors_done tasks done t d outcomes r all =
-    let h = ready_task tasks done t r in
-    let e : get_or tasks t d ≡ h.0 = get_or_from_slice_get tasks t h.0 d h.1 in
-    rw e (list_all_weaker (λ p. is_among p.task done) (λ p. is_some (outcome_at outcomes p.task)) (λ p. all p.task) h.0.deps h.2)

@@ -10,7 +10,7 @@ use Rattle.plural_map.specs.declared.outcome.When.TheVariants as when
 use Rattle.plural_map.specs.declared.outcome.Dep.{Dep}
 use Rattle.plural_map.specs.Value.{TaskValue}
 
--- `any` is satisfied where the task ended or was skipped, a code where it ended with that code.
+-- `any` is satisfied if the task ended or was skipped, a code if it ended with that code.
 abbrev pub satisfies : When → Outcome → Bool
 satisfies when.Any outcome.Ended0 = true
 satisfies when.Any outcome.Ended1 = true
@@ -21,7 +21,7 @@ satisfies when.Code0 _ = false
 satisfies when.Code1 outcome.Ended1 = true
 satisfies when.Code1 _ = false
 
--- The outcome of the task of this number, where it is there.
+-- The outcome of the task of this number, if it is there.
 abbrev pub outcome_at : List (Option Outcome) → ℕ → Option Outcome
 outcome_at outcomes t = slice_index_or outcomes t None
 
@@ -45,7 +45,7 @@ is_enough some [] outcomes = true
 is_enough true (d ∷ ds) outcomes = list_any (λ d. is_satisfied d.when (outcome_at outcomes d.task)) (d ∷ ds)
 is_enough false (d ∷ ds) outcomes = list_all (λ d. is_satisfied d.when (outcome_at outcomes d.task)) (d ∷ ds)
 
--- A task fails where a predecessor is failed, else runs where enough of its dependencies are satisfied, else is skipped.
+-- A task fails if a predecessor is failed, else runs if enough of its dependencies are satisfied, else is skipped.
 abbrev pub decided : TaskValue → List (Option Outcome) → Decision
 decided task outcomes =
     if has_failed task outcomes then decision.Fail

@@ -24,7 +24,8 @@ next_ready tasks done = position (is_ready tasks done) (range_with_len 0 (length
 -- Those done, and then at most this many more, each the least that is ready.
 unfoldable pub order_from : (fuel : ℕ) → List TaskValue → (done : List ℕ) → List ℕ
 order_from zero tasks done = done
-order_from (suc fuel) tasks done = option_map_or (λ t. order_from fuel tasks (done ++ t ∷ [])) (next_ready tasks done) done
+order_from (suc fuel) tasks done =
+    option_map_or (λ t. order_from fuel tasks (done ++ t ∷ [])) (next_ready tasks done) done
 
 -- The order of the tasks.
 abbrev pub order_of : List TaskValue → List ℕ
@@ -32,8 +33,9 @@ order_of tasks = order_from (length tasks) tasks []
 
 -- Each task depends on tasks of lesser numbers alone.
 abbrev pub IsDeclaredInOrder : List TaskValue → Type 0
-IsDeclaredInOrder tasks = (t : ℕ) (d : TaskValue) → t < length tasks → All (λ p. p.task < t) (slice_index_or tasks t d).deps
+IsDeclaredInOrder tasks =
+    (t : ℕ) (d : TaskValue) → t < length tasks → All (λ p. p.task < t) (slice_index_or tasks t d).deps
 
--- Where each task depends on tasks of lesser numbers alone, the order is that of the numbers.
+-- If each task depends on tasks of lesser numbers alone, the order is that of the numbers.
 abbrev pub DeclaredOrder : Type 0
 DeclaredOrder = (tasks : List TaskValue) → IsDeclaredInOrder tasks → order_of tasks ≡ range_with_len 0 (length tasks)

@@ -1,5 +1,5 @@
 -- A task and a map as contracts see them.
-use Rattle.std.specs.Prelude.{ℕ, Bool, List, [], ◌∷◌, ◌++◌}
+use Rattle.std.specs.Prelude.{ℕ, Bool, false, List, [], ◌∷◌, ◌++◌, slice_index_or}
 use Rattle.plural_regions.specs.declared.region.Region.{Region}
 use Rattle.plural_map.specs.declared.outcome.Dep.{Dep}
 
@@ -22,6 +22,28 @@ pub record MapValue : Type 0 where
   pub ways : ℕ
   pub tasks : List TaskValue
   pub order : List ℕ
+
+-- The map of these parts.
+abbrev pub map_value : (words sets ways : ℕ) → List TaskValue → (order : List ℕ) → MapValue
+map_value words sets ways tasks order =
+    record { words = words; sets = sets; ways = ways; tasks = tasks; order = order }
+
+-- What stands past the last task: a task without a name, instances, dependencies and regions.
+abbrev pub no_task : TaskValue
+no_task = record {
+  name = [];
+  dup = false;
+  quota = 0;
+  entry = [];
+  budget = 0;
+  some = false;
+  deps = [];
+  regions = [];
+}
+
+-- The task of a number.
+abbrev pub task_of : List TaskValue → ℕ → TaskValue
+task_of tasks t = slice_index_or tasks t no_task
 
 -- A task with one more dependency.
 abbrev pub with_dep : Dep → TaskValue → TaskValue

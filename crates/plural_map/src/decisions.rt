@@ -1,4 +1,4 @@
-ghost use Rattle.std.specs.Prelude.{◌≡◌, ◌||◌, not, slice_index_or, None, true, ◌↔◌};
+ghost use Rattle.std.specs.Prelude.{◌≡◌, ◌||◌, None, true, ◌↔◌};
 ghost use Rattle.std.specs.List.{list_any, list_all};
 ghost use Rattle.plural_map.specs.declared.outcome.Decision.TheVariants.{Skip, Fail};
 ghost use Rattle.plural_map.specs.Decisions.{satisfies, decided, is_failed, is_satisfied, outcome_at, has_failed, is_enough, HasPredecessors, IsSkipped};

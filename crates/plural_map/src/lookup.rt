@@ -18,7 +18,7 @@ fn position_named(tasks: &[Task], name: &Name) -> Option<usize>
     tasks.iter().position(|t| t.name() == name)
 }
 
-/// The number, from 0, of the first task that has this name; how many tasks there are where none has it.
+/// The number, from 0, of the first task that has this name; how many tasks there are if none has it.
 pub fn number_of(tasks: &[Task], name: &Name) -> usize
     ensures number { result ≡ number_of name.now tasks.now }
     ensures bound { result ≤ length tasks.now }

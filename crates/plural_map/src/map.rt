@@ -1,4 +1,5 @@
 ghost use Rattle.std.specs.Prelude.{◌≡◌};
+ghost use Rattle.plural_map.specs.Value.{map_value};
 ghost use Rattle.plural_map.specs.Limits.{IsMap};
 
 use crate::task::Task;
@@ -15,21 +16,21 @@ pub struct Map {
 }
 
 impl Model for Map {
-    ghost use Rattle.plural_map.specs.Value.{MapValue};
+    ghost use Rattle.plural_map.specs.Value.{MapValue, map_value};
     ghost use Rattle.plural_map.specs.Limits.{IsMap};
 
     ghost Value = { MapValue };
 
-    ghost view = { λ m. record { words = m.words; sets = m.sets; ways = m.ways; tasks = m.tasks.items; order = m.order.items } };
+    ghost view = { λ m. map_value m.words m.sets m.ways m.tasks.items m.order.items };
 
-    ghost invariant = { λ m. IsMap (record { words = m.words; sets = m.sets; ways = m.ways; tasks = m.tasks.items; order = m.order.items }) };
+    ghost invariant = { λ m. IsMap (map_value m.words m.sets m.ways m.tasks.items m.order.items) };
 }
 
 impl Map {
-    /// The map of these parts, where they are within the limits of a map.
+    /// The map of these parts, which are within the limits of a map.
     pub fn of(words: u32, sets: u32, ways: u32, tasks: Vec<Task>, order: Vec<u32>) -> Map
-        requires { IsMap (record { words = words; sets = sets; ways = ways; tasks = tasks.items; order = order.items }) }
-        ensures { result ≡ record { words = words; sets = sets; ways = ways; tasks = tasks.items; order = order.items } }
+        requires { IsMap (map_value words sets ways tasks.items order.items) }
+        ensures { result ≡ map_value words sets ways tasks.items order.items }
     {
         Map {
             words,

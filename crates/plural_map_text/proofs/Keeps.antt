@@ -19,7 +19,7 @@ use Rattle.plural_map_text.specs.Parts.{Parts, tasks_of, with_line, nothing, who
 use Rattle.plural_map.specs.Lookup.{number_of, has_task}
 use Rattle.plural_map_text.specs.Rules.{has, has_dep, task_count, instance_count, is_between, is_out_of_place, is_out_of_range, is_misnamed, is_too_many, IsInsideAt}
 use Rattle.plural_map_text.proofs.Kept.{IsDeclared, task_from_declared, dep_added, region_added, length_all, quotas_all, names_all, declared_all, new_name_all, number_below}
-use Rattle.plural_map.proofs.Declared.{declared_order, among_range}
+use Rattle.plural_map.proofs.DeclarationOrder.{declared_order, among_range}
 
 -- ---- numbers
 

@@ -25,7 +25,7 @@ use Rattle.plural_map_text.specs.Parts.{Parts, with_line, with_text, nothing, pa
 use Rattle.plural_map_text.specs.Rules.{HasKind, Breaks, IsVerdict, IsInsideAt, IsLineFault, closed, rank, Faults, is_out_of_place, is_out_of_range, is_misnamed, is_too_many}
 use Rattle.plural_map_text.proofs.Verdicts.{no_kind}
 use Rattle.plural_map_text.proofs.Keeps.{IsKept, kept_nothing, kept_more, kept_map, kept_in_order}
-use Rattle.plural_map.proofs.Declared.{declared_order}
+use Rattle.plural_map.proofs.DeclarationOrder.{declared_order}
 
 -- ---- what the reader knows after some lines
 

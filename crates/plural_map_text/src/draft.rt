@@ -17,7 +17,7 @@ use crate::fault::MapKind;
 use crate::line::{MapLine, TaskKind};
 use arrayvec::ArrayVec;
 use plural_bytes::Name;
-use plural_map::{Dep, Task, has_task, number_of};
+use plural_map::{Dep, Task, TaskParts, has_task, number_of};
 use plural_regions::{Mode, Region};
 use std::alloc::AllocFailed;
 
@@ -324,10 +324,16 @@ pub(crate) fn add(draft: &mut Draft, line: &MapLine) -> Result<(), AllocFailed<T
             entry,
             budget,
         } => {
-            let (dup, quota) = (is_dup(kind), quota_of(kind).unwrap_or(0));
-            let budget = budget.unwrap_or(0);
-            let (deps, regions) = (ArrayVec::new(), ArrayVec::new());
-            let task = Task::of(name, dup, quota, entry, budget, false, deps, regions);
+            let task = Task::of(TaskParts {
+                name,
+                dup: is_dup(kind),
+                quota: quota_of(kind).unwrap_or(0),
+                entry,
+                budget: budget.unwrap_or(0),
+                some: false,
+                deps: ArrayVec::new(),
+                regions: ArrayVec::new(),
+            });
             open_task(draft, task)
         }
         MapLine::After { name, when } => {

@@ -17,6 +17,7 @@ use Rattle.plural_reach.proofs.Solutions.{Step, IsLocal, Solves, solved_by}
 abbrev pub need_step : ℕ → Step
 need_step c f task p = is_given (λ t q code. f t q) p c task.some task.deps
 
+-- What a task needs is made from what the tasks that it depends on need.
 pub need_local : (c : ℕ) → IsLocal (need_step c)
 need_local c = record {
   same = λ f g task p h. given_same (λ t q code. f t q) (λ t q code. g t q) p c task.some task.deps h;
@@ -61,10 +62,10 @@ needs_exact c tasks f reaches solved t p l = (sound t p (reaches t l), (λ h. sy
     sound = solved_by (need_step c) tasks f (λ u p. NeedsCode tasks u p c) solved keeps
 
 -- The sets of two tasks in two tables have a task in common.
-abbrev pub Faces : (a b : List TaskSet) → (t u : ℕ) → Type 0
+abbrev Faces : (a b : List TaskSet) → (t u : ℕ) → Type 0
 Faces a b t u = (p : ℕ) × (has (get_or a t (record { low = 0; high = 0 })) p ≡ true) × (has (get_or b u (record { low = 0; high = 0 })) p ≡ true)
 
--- Where the tables are those of the tasks, tasks that face each other are exclusive.
+-- If the tables are those of the tasks, tasks that face each other are exclusive.
 pub exclusive_when : (tasks : List TaskValue) (n : Needs) (t u : ℕ) → IsNeedsOf n tasks → length n.zero ≡ 256 → length n.one ≡ 256 → t < 256 → u < 256 → t < length tasks → u < length tasks → t ≢ u
     → Faces n.zero n.one t u ⊎ Faces n.one n.zero t u → Exclusive tasks t u
 exclusive_when tasks n t u is z o v w k l differ (inl h) = (

@@ -1,12 +1,12 @@
 -- A table of predecessors that is made along the order holds exactly the chains.
-use Rattle.std.proofs.Common.{ℕ, ◌≡◌, ◌⊎◌, Bool, true, List, [], ◌∷◌, Option, Some, None, refl, ap, ◌∙◌, inl, inr, ⊎_elim, ◌<◌, length, ◌↔◌}
+use Rattle.std.proofs.Common.{ℕ, ◌≡◌, ◌⊎◌, Bool, true, false, List, [], ◌∷◌, Some, ap, subst, ◌∙◌, inl, inr, ⊎_elim, ◌<◌, length, ◌↔◌}
 use Rattle.std.specs.Prelude.{◌||◌, ◌==◌, slice_get}
 use Rattle.std.specs.List.{list_any}
-use Rattle.std.specs.Option.{option_map_or}
 use Rattle.std.proofs.lemmas.Bool.{eqb-true}
-use Rattle.std.proofs.lemmas.Option.{slice_get_within}
+use Rattle.std.proofs.lemmas.Option.{slice_get_within, slice_get_cases, get_or_from_slice_get}
+use Rattle.std.proofs.lemmas.List.{get_or_past}
 use Rattle.plural_map.specs.declared.outcome.Dep.{Dep}
-use Rattle.plural_map.specs.Value.{TaskValue}
+use Rattle.plural_map.specs.Value.{TaskValue, no_task}
 use Rattle.plural_map.specs.Order.{is_among, order_of}
 use Rattle.plural_reach.specs.Chains.{deps_of, DependsOn, LeadsBack, Before}
 use Rattle.plural_reach.proofs.DepLemmas.{or_cases, or_left, or_right, names, names_first, names_later, any_same, any_weaker}
@@ -16,6 +16,7 @@ use Rattle.plural_reach.proofs.Solutions.{Step, IsLocal, Solves, solved_by}
 abbrev pub chain_step : Step
 chain_step f task p = list_any (λ d. d.task == p || f d.task p) task.deps
 
+-- What comes before a task is made from what comes before those that it depends on.
 pub chain_local : IsLocal chain_step
 chain_local = record {
   same = λ f g task p h. any_same (λ d. d.task == p || f d.task p) (λ d. d.task == p || g d.task p) task.deps (λ d m. ap (λ (b : Bool). d.task == p || b) (h d.task m));
@@ -42,25 +43,26 @@ split f (d ∷ ds) p h = ⊎_elim first (λ e. more (split f ds p e)) (or_cases 
     more (inr k) = inr (k.0, names_later d ds k.0 k.1, k.2)
 
 -- The dependencies of a number are those of its task.
-deps_at : (tasks : List TaskValue) (u : ℕ) (task : TaskValue) → slice_get tasks u ≡ Some task → deps_of tasks u ≡ task.deps
-deps_at tasks u task e = ap (λ o. option_map_or (λ (x : TaskValue). x.deps) o []) e
+pub deps_at : (tasks : List TaskValue) (u : ℕ) (task : TaskValue) → slice_get tasks u ≡ Some task → deps_of tasks u ≡ task.deps
+deps_at tasks u task e = ap (λ (x : TaskValue). x.deps) (get_or_from_slice_get tasks u task no_task e)
 
 -- A number that depends on another is that of a task.
-task_of : (tasks : List TaskValue) (u t : ℕ) → DependsOn tasks u t → (task : TaskValue) × (slice_get tasks u ≡ Some task) × (names task.deps t ≡ true)
-task_of tasks u t h = by_task (slice_get tasks u) refl h
-  where
-    by_task : (o : Option TaskValue) → slice_get tasks u ≡ o → names (option_map_or (λ task. task.deps) o []) t ≡ true → (task : TaskValue) × (slice_get tasks u ≡ Some task) × (names task.deps t ≡ true)
-    by_task None e m = absurd cc
-    by_task (Some task) e m = (task, e, m)
+pub dependent : (tasks : List TaskValue) (u t : ℕ) → DependsOn tasks u t → (task : TaskValue) × (slice_get tasks u ≡ Some task) × (names task.deps t ≡ true)
+dependent tasks u t h = ⊎_elim
+    (λ c. (c.0, c.2, subst (λ (ds : List Dep). names ds t ≡ true) (deps_at tasks u c.0 c.2) h))
+    (λ c.
+    let f : false ≡ true = subst (λ (ds : List Dep). names ds t ≡ true) (ap (λ (x : TaskValue). x.deps) (get_or_past tasks u no_task c.0)) h in
+    absurd cc)
+    ((slice_get_cases tasks u).1)
 
 -- What a chain leads from is in the entry.
 in_entry : (tasks : List TaskValue) (f : ℕ → ℕ → Bool) → ((t : ℕ) (task : TaskValue) → slice_get tasks t ≡ Some task → (p : ℕ) → f t p ≡ chain_step f task p)
     → (between : List ℕ) (u p : ℕ) → LeadsBack tasks u between p → f u p ≡ true
 in_entry tasks f equal [] u p h =
-    let k = task_of tasks u p h in
+    let k = dependent tasks u p h in
     equal u k.0 k.1 p ∙ any_weaker (λ d. d.task == p) (λ d. d.task == p || f d.task p) k.0.deps (λ d m e. or_left (d.task == p) (f d.task p) e) k.2
 in_entry tasks f equal (w ∷ between) u p h =
-    let k = task_of tasks u w h.0 in
+    let k = dependent tasks u w h.0 in
     equal u k.0 k.1 p ∙ through f k.0.deps w p k.2 (in_entry tasks f equal between w p h.1)
 
 -- The finished table has exactly the chains.

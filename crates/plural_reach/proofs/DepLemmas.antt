@@ -13,27 +13,30 @@ use Rattle.plural_reach.specs.Branches.{Family, code_of, gives, all_give, is_giv
 
 -- ---- tests
 
+-- A true disjunction has a true part.
 pub or_cases : (a b : Bool) → (a || b) ≡ true → (a ≡ true) ⊎ (b ≡ true)
 or_cases true b h = inl refl
 or_cases false b h = inr h
 
+-- A disjunction is true by its first part.
 pub or_left : (a b : Bool) → a ≡ true → (a || b) ≡ true
 or_left true b h = refl
 or_left false b h = absurd cc
 
+-- A disjunction is true by its second part.
 pub or_right : (a b : Bool) → b ≡ true → (a || b) ≡ true
 or_right true b h = refl
 or_right false b h = h
 
-pub and_left : (a b : Bool) → (a && b) ≡ true → a ≡ true
+and_left : (a b : Bool) → (a && b) ≡ true → a ≡ true
 and_left true b h = refl
 and_left false b h = absurd cc
 
-pub and_right : (a b : Bool) → (a && b) ≡ true → b ≡ true
+and_right : (a b : Bool) → (a && b) ≡ true → b ≡ true
 and_right true b h = h
 and_right false b h = absurd cc
 
-pub and_both : (a b : Bool) → a ≡ true → b ≡ true → (a && b) ≡ true
+and_both : (a b : Bool) → a ≡ true → b ≡ true → (a && b) ≡ true
 and_both true b p q = q
 and_both false b p q = absurd cc
 
@@ -43,9 +46,11 @@ and_both false b p q = absurd cc
 abbrev pub names : List Dep → ℕ → Bool
 names deps t = list_any (λ d. d.task == t) deps
 
+-- Dependencies name the task of the first.
 pub names_first : (d : Dep) (ds : List Dep) → names (d ∷ ds) d.task ≡ true
 names_first d ds = or_left (d.task == d.task) (names ds d.task) (eq-eqb d.task d.task refl)
 
+-- They name what the later ones name.
 pub names_later : (d : Dep) (ds : List Dep) (t : ℕ) → names ds t ≡ true → names (d ∷ ds) t ≡ true
 names_later d ds t h = or_right (d.task == t) (names ds t) h
 
@@ -54,11 +59,11 @@ pub any_same : (f g : Dep → Bool) (ds : List Dep) → ((d : Dep) → names ds 
 any_same f g [] h = refl
 any_same f g (d ∷ ds) h = rw (h d (names_first d ds), any_same f g ds (λ e m. h e (names_later d ds e.task m))) refl
 
-pub all_same : (f g : Dep → Bool) (ds : List Dep) → ((d : Dep) → names ds d.task ≡ true → f d ≡ g d) → list_all f ds ≡ list_all g ds
+all_same : (f g : Dep → Bool) (ds : List Dep) → ((d : Dep) → names ds d.task ≡ true → f d ≡ g d) → list_all f ds ≡ list_all g ds
 all_same f g [] h = refl
 all_same f g (d ∷ ds) h = rw (h d (names_first d ds), all_same f g ds (λ e m. h e (names_later d ds e.task m))) refl
 
--- A test that passes wherever another does passes on the list where the other does.
+-- A test that passes wherever another does passes on the list if the other does.
 pub any_weaker : (f g : Dep → Bool) (ds : List Dep) → ((d : Dep) → names ds d.task ≡ true → f d ≡ true → g d ≡ true) → list_any f ds ≡ true → list_any g ds ≡ true
 any_weaker f g [] h a = a
 any_weaker f g (d ∷ ds) h a = ⊎_elim
@@ -66,12 +71,13 @@ any_weaker f g (d ∷ ds) h a = ⊎_elim
     (λ (p : list_any f ds ≡ true). or_right (g d) (list_any g ds) (any_weaker f g ds (λ e m. h e (names_later d ds e.task m)) p))
     (or_cases (f d) (list_any f ds) a)
 
+-- The same for a test that has to pass at each.
 pub all_weaker : (f g : Dep → Bool) (ds : List Dep) → ((d : Dep) → names ds d.task ≡ true → f d ≡ true → g d ≡ true) → list_all f ds ≡ true → list_all g ds ≡ true
 all_weaker f g [] h a = refl
 all_weaker f g (d ∷ ds) h a = and_both (g d) (list_all g ds) (h d (names_first d ds) (and_left (f d) (list_all f ds) a))
     (all_weaker f g ds (λ e m. h e (names_later d ds e.task m)) (and_right (f d) (list_all f ds) a))
 
--- A test that passes at all dependencies passes at one that names a task, where it looks at the task alone.
+-- A test that passes at all dependencies passes at one that names a task, if it looks at the task alone.
 pub all_at : (f : ℕ → Bool) (ds : List Dep) (t : ℕ) → list_all (λ d. f d.task) ds ≡ true → names ds t ≡ true → f t ≡ true
 all_at f [] t a m = absurd cc
 all_at f (d ∷ ds) t a m = ⊎_elim
@@ -103,7 +109,7 @@ pub given_same : (f g : Family) (p c : ℕ) (some : Bool) (ds : List Dep) → ((
 given_same f g p c true ds h = all_give_same f g p c ds h
 given_same f g p c false ds h = any_same (gives f p c) (gives g p c) ds (λ e m. given_same_at (code_of e.when) (e.task == p) (f e.task p c) (g e.task p c) c (h e.task m))
 
--- Where these sets grow, a task is given no less.
+-- If these sets grow, a task is given no less.
 pub given_weaker : (f g : Family) (p c : ℕ) (some : Bool) (ds : List Dep) → ((t : ℕ) → names ds t ≡ true → f t p c ≡ true → g t p c ≡ true) → is_given f p c some ds ≡ true → is_given g p c some ds ≡ true
 given_weaker f g p c true ds h a = all_give_weaker f g p c ds h a
 given_weaker f g p c false ds h a = any_weaker (gives f p c) (gives g p c) ds (λ e m. given_weaker_at (code_of e.when) (e.task == p) (f e.task p c) (g e.task p c) c (h e.task m)) a

@@ -41,6 +41,7 @@ if_and : (c p q r s : Bool) → (if c then p && q else (r && s)) ≡ ((if c then
 if_and true p q r s = refl
 if_and false p q r s = refl
 
+-- The empty set has no number.
 pub has-empty : (u : ℕ) → has (record { low = 0; high = 0 }) u ≡ false
 unfolding has
 has-empty u = rw (bit_at-zero u, bit_at-zero (u - 128)) (same (nat_lt u 128))
@@ -49,20 +50,23 @@ has-empty u = rw (bit_at-zero u, bit_at-zero (u - 128)) (same (nat_lt u 128))
     same true = refl
     same false = refl
 
+-- The union of two sets has the numbers of either.
 pub has-or : (s t : TaskSet) (u : ℕ) → has (record { low = bit_or s.low t.low; high = bit_or s.high t.high }) u ≡ (has s u || has t u)
 unfolding has
 has-or s t u = rw (or_test s.low t.low u, or_test s.high t.high (u - 128)) (if_or (nat_lt u 128) (bit_at s.low u == 1) (bit_at t.low u == 1) (bit_at s.high (u - 128) == 1) (bit_at t.high (u - 128) == 1))
 
+-- The intersection of two sets has the numbers of both.
 pub has-and : (s t : TaskSet) (u : ℕ) → has (record { low = bit_and s.low t.low; high = bit_and s.high t.high }) u ≡ (has s u && has t u)
 unfolding has
 has-and s t u = rw (and_test s.low t.low u, and_test s.high t.high (u - 128)) (if_and (nat_lt u 128) (bit_at s.low u == 1) (bit_at t.low u == 1) (bit_at s.high (u - 128) == 1) (bit_at t.high (u - 128) == 1))
 
 -- A number below 128 is looked up in the lower half, another in the upper.
-pub has-low : (s : TaskSet) (u : ℕ) → u < 128 → has s u ≡ (bit_at s.low u == 1)
+has-low : (s : TaskSet) (u : ℕ) → u < 128 → has s u ≡ (bit_at s.low u == 1)
 unfolding has
 has-low s u h = rw (lt-ltb u 128 h) refl
 
-pub has-high : (s : TaskSet) (u : ℕ) → 128 ≤ u → has s u ≡ (bit_at s.high (u - 128) == 1)
+-- A number from 128 on is told by a bit of the upper half.
+has-high : (s : TaskSet) (u : ℕ) → 128 ≤ u → has s u ≡ (bit_at s.high (u - 128) == 1)
 unfolding has
 has-high s u h = rw (le-ltb u 128 h) refl
 
@@ -70,6 +74,7 @@ has-high s u h = rw (le-ltb u 128 h) refl
 pub test_low : (s : TaskSet) (u : ℕ) → u < 128 → (bit_and (s.low / 2 ^ u) 1 == 1) ≡ has s u
 test_low s u h = ap (λ (z : ℕ). z == 1) (shr_and_one s.low u) ∙ sym (has-low s u h)
 
+-- The test of that bit by a shift.
 pub test_high : (s : TaskSet) (u : ℕ) → 128 ≤ u → (bit_and (s.high / 2 ^ (u - 128)) 1 == 1) ≡ has s u
 test_high s u h = ap (λ (z : ℕ). z == 1) (shr_and_one s.high (u - 128)) ∙ sym (has-high s u h)
 
@@ -80,12 +85,14 @@ set_test n k i h = ⊎_elim
     (λ (e : k ≢ i). rw (ne_eqb k i e, bit_at_set_other w128 n k h i (λ (f : i ≡ k). e (sym f))) refl)
     (cases_eq k i)
 
+-- A set with one number below 128 more.
 pub has-with_low : (s : TaskSet) (t u : ℕ) → t < 128 → has (record { low = bit_or s.low (1 * 2 ^ t % 340282366920938463463374607431768211456); high = s.high }) u ≡ ((t == u) || has s u)
 has-with_low s t u h = ⊎_elim
     (λ (l : u < 128). has-low (record { low = bit_or s.low (1 * 2 ^ t % 340282366920938463463374607431768211456); high = s.high }) u l ∙ (set_test s.low t u h ∙ ap (λ (b : Bool). (t == u) || b) (sym (has-low s u l))))
     (λ (l : 128 ≤ u). has-high (record { low = bit_or s.low (1 * 2 ^ t % 340282366920938463463374607431768211456); high = s.high }) u l ∙ (sym (has-high s u l) ∙ ap (λ (b : Bool). b || has s u) (sym (ne_eqb t u (λ (e : t ≡ u). omega arith)))))
     (cases_lt u 128)
 
+-- A set with one number from 128 on more.
 pub has-with_high : (s : TaskSet) (t u : ℕ) → 128 ≤ t → t < 256 → has (record { low = s.low; high = bit_or s.high (1 * 2 ^ (t - 128) % 340282366920938463463374607431768211456) }) u ≡ ((t == u) || has s u)
 has-with_high s t u h k = ⊎_elim
     (λ (l : u < 128). has-low (record { low = s.low; high = bit_or s.high (1 * 2 ^ (t - 128) % 340282366920938463463374607431768211456) }) u l ∙ (sym (has-low s u l) ∙ ap (λ (b : Bool). b || has s u) (sym (ne_eqb t u (λ (e : t ≡ u). omega arith)))))
@@ -104,6 +111,7 @@ has-with_high s t u h k = ⊎_elim
 both_one : (x y : ℕ) → x < 2 → y < 2 → min x y ≡ 1 → (x ≡ 1) × (y ≡ 1)
 both_one x y p q e = (omega arith, omega arith)
 
+-- Two halves whose common bits aren't 0 have a bit in common.
 pub common_bit : (a b : ℕ) → bit_and a b ≢ 0 → bit_and a b < 2 ^ 128 → (i : ℕ) × (i < 128) × (bit_at a i ≡ 1) × (bit_at b i ≡ 1)
 common_bit a b some h =
     let p = bit_at-trailing_zeros w128 (bit_and a b) (omega arith) h in
@@ -112,24 +120,29 @@ common_bit a b some h =
     by_place : (i : ℕ) → i < 128 → bit_at (bit_and a b) i ≡ 1 → (i : ℕ) × (i < 128) × (bit_at a i ≡ 1) × (bit_at b i ≡ 1)
     by_place i l e = let m = both_one (bit_at a i) (bit_at b i) (bit_at-lt a i) (bit_at-lt b i) (sym (bit_at_and a b i) ∙ e) in (i, l, m.0, m.1)
 
+-- If they have one, their common bits aren't 0.
 pub bit_in_common : (a b i : ℕ) → bit_at a i ≡ 1 → bit_at b i ≡ 1 → bit_and a b ≢ 0
 bit_in_common a b i p q e =
     let one : bit_at (bit_and a b) i ≡ 1 = bit_at_and a b i ∙ omega arith in
     let none : bit_at (bit_and a b) i ≡ 0 = ap (λ (z : ℕ). bit_at z i) e ∙ bit_at-zero i in
     omega arith
 
+-- A number that the test tells from 0 isn't 0.
 pub nonzero_from : (n : ℕ) → not (n == 0) ≡ true → n ≢ 0
 nonzero_from zero h e = absurd cc
 nonzero_from (suc n) h e = absurd (omega arith)
 
+-- A number that isn't 0 passes the test.
 pub nonzero_when : (n : ℕ) → n ≢ 0 → not (n == 0) ≡ true
 nonzero_when n h = rw (ne_eqb n 0 h) refl
 
 -- ---- sets with a number in common
 
+-- A common bit of the lower halves is a common number.
 pub number_low : (s t : TaskSet) → (i : ℕ) × (i < 128) × (bit_at s.low i ≡ 1) × (bit_at t.low i ≡ 1) → (u : ℕ) × (has s u ≡ true) × (has t u ≡ true)
 number_low s t h = (h.0, has-low s h.0 h.1 ∙ eq-eqb (bit_at s.low h.0) 1 h.2, has-low t h.0 h.1 ∙ eq-eqb (bit_at t.low h.0) 1 h.3)
 
+-- A common bit of the upper halves is a common number.
 pub number_high : (s t : TaskSet) → (i : ℕ) × (i < 128) × (bit_at s.high i ≡ 1) × (bit_at t.high i ≡ 1) → (u : ℕ) × (has s u ≡ true) × (has t u ≡ true)
 number_high s t h = (h.0 + 128, at s h.2, at t h.3)
   where

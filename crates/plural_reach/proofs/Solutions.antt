@@ -22,9 +22,6 @@ pub record Solves (step : Step) (tasks : List TaskValue) (done : List ℕ) (f : 
   pub closed : (t : ℕ) (task : TaskValue) → is_among t done ≡ true → slice_get tasks t ≡ Some task → has_all_done done task ≡ true
   pub equal : (t : ℕ) (task : TaskValue) → is_among t done ≡ true → slice_get tasks t ≡ Some task → (p : ℕ) → f t p ≡ step f task p
 
-pub solves_none : (step : Step) (tasks : List TaskValue) (f : ℕ → ℕ → Bool) → Solves step tasks [] f
-solves_none step tasks f = record { closed = λ t task m e. absurd cc; equal = λ t task m e p. absurd cc }
-
 some_is : {X : Type 0} (x y : X) (o : Option X) → o ≡ Some x → o ≡ Some y → x ≡ y
 some_is x y o p q = cc
 

@@ -17,8 +17,8 @@ code_of when.Code1 = Some 1
 abbrev pub Family : Type 0
 Family = (task other code : ℕ) → Bool
 
--- The dependency gives the pair (p, c): it asks for a code, and either it is on p and asks for c, or the task that it is
--- on has the pair.
+-- The dependency gives the pair (p, c): it asks for a code, and either it is on p and asks for c, or the task that it
+-- is on has the pair.
 abbrev pub gives : Family → (p c : ℕ) → Dep → Bool
 gives sets p c d = option_map_or (λ code. (d.task == p && code == c) || sets d.task p c) (code_of d.when) false
 
@@ -34,13 +34,16 @@ is_given sets p c false deps = list_any (gives sets p c) deps
 
 -- Each task's set has all that the task is given.
 pub record IsClosed (tasks : List TaskValue) (sets : Family) : Type 0 where
-  pub has_given : (t p c : ℕ) (task : TaskValue) → slice_get tasks t ≡ Some task → is_given sets p c task.some task.deps ≡ true → sets t p c ≡ true
+  pub has_given : (t p c : ℕ) (task : TaskValue) → slice_get tasks t ≡ Some task
+      → is_given sets p c task.some task.deps ≡ true → sets t p c ≡ true
 
--- Task t needs code c of task p: the pair is in the least sets that have all that their tasks are given, which is to say
--- in the set of t of each closed family.
+-- Task t needs code c of task p: the pair is in the least sets that have all that their tasks are given, which is to
+-- say in the set of t of each closed family.
 abbrev pub NeedsCode : List TaskValue → (t p c : ℕ) → Type 0
 NeedsCode tasks t p c = (sets : Family) → IsClosed tasks sets → sets t p c ≡ true
 
 -- The tasks differ, and for some task p one needs its code 0 and the other its code 1.
 abbrev pub Exclusive : List TaskValue → (t u : ℕ) → Type 0
-Exclusive tasks t u = (t ≢ u) × (p : ℕ) × ((NeedsCode tasks t p 0 × NeedsCode tasks u p 1) ⊎ (NeedsCode tasks t p 1 × NeedsCode tasks u p 0))
+Exclusive tasks t u =
+    (t ≢ u) × (p : ℕ)
+    × ((NeedsCode tasks t p 0 × NeedsCode tasks u p 1) ⊎ (NeedsCode tasks t p 1 × NeedsCode tasks u p 0))

@@ -51,7 +51,7 @@ fn given_by_one(deps: &[Dep], code: u32, sets: &[TaskSet; 256]) -> TaskSet
     all
 }
 
-/// The tasks whose code `code` each dependency gives; none where there is no dependency.
+/// The tasks whose code `code` each dependency gives; none if there is no dependency.
 fn given_by_all(deps: &[Dep], code: u32, sets: &[TaskSet; 256]) -> TaskSet
     requires { All (λ d. d.task < 256) deps.now }
     ensures { (p : ℕ) → has result p ≡ all_give (family sets.now) p code deps.now }

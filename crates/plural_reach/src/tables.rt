@@ -1,5 +1,5 @@
 //! The tables that are made once for a map.
-ghost use Rattle.std.specs.Prelude.{◌≡◌, ◌<◌, ◌↔◌, ℕ, List, length, IsTrue};
+ghost use Rattle.std.specs.Prelude.{◌≡◌, ◌<◌, ◌↔◌, List, length, IsTrue};
 ghost use Rattle.plural_map.specs.Value.{TaskValue};
 
 use crate::set::TaskSet;
@@ -26,7 +26,8 @@ impl Reach {
         requires first { t < 256 }
         requires second { u < 256 }
         ensures says { result ≡ says_before self.now t u }
-        ensures exact { (tasks : List TaskValue) → IsReachOf self.now tasks → u < length tasks → IsTrue result ↔ Before tasks t u }
+        ensures exact { (tasks : List TaskValue) → IsReachOf self.now tasks → u < length tasks
+            → IsTrue result ↔ Before tasks t u }
     {
         self.before[u as usize].has(t)
     }
@@ -41,7 +42,8 @@ impl Needs {
     pub fn exclusive(&self, t: u32, u: u32) -> bool
         requires first { t < 256 }
         requires second { u < 256 }
-        ensures exact { (tasks : List TaskValue) → IsNeedsOf self.now tasks → t < length tasks → u < length tasks → IsTrue result ↔ Exclusive tasks t u }
+        ensures exact { (tasks : List TaskValue) → IsNeedsOf self.now tasks → t < length tasks → u < length tasks
+            → IsTrue result ↔ Exclusive tasks t u }
     {
         let (t, u) = (t as usize, u as usize);
         t != u && (self.zero[t].meets(&self.one[u]) || self.one[t].meets(&self.zero[u]))

@@ -1,10 +1,11 @@
 -- An instance of a program depends on the words that it may read alone, and stores where it may write.
 use Rattle.std.proofs.Common.{ℕ, ◌<◌, List, length, arith, ap}
+use Rattle.plural_map.specs.Value.{no_task}
 use Rattle.plural_map.specs.Limits.{IsMap}
 use Rattle.plural_core.specs.Footprint.{Agrees}
 use Rattle.plural_core.proofs.Footprint.{alike_life}
 use Rattle.plural_core.proofs.Guarded.{guarded_life}
-use Rattle.plural_serial.specs.Program.{ProgramValue, no_task, task_at, place_at, start_state}
+use Rattle.plural_serial.specs.Program.{ProgramValue, task_at, place_at, start_state}
 use Rattle.plural_serial.specs.Footprint.{AgreeFor, Footprint}
 
 -- Memories of the map's length that agree for an instance agree where it runs.

@@ -10,12 +10,11 @@ use Rattle.std.proofs.lemmas.List.Folds.{list_any-append}
 use Rattle.std.proofs.lemmas.Option.{get_or_from_slice_get}
 use Rattle.plural_map.specs.declared.outcome.Dep.{Dep}
 use Rattle.plural_map.specs.declared.outcome.Outcome.{Outcome}
-use Rattle.plural_map.specs.Value.{TaskValue, MapValue}
+use Rattle.plural_map.specs.Value.{TaskValue, MapValue, no_task}
 use Rattle.plural_map.specs.Limits.{IsMap}
 use Rattle.plural_map.specs.Decisions.{outcome_at, HasPredecessors}
 use Rattle.plural_map.specs.Order.{is_among, has_all_done, order_of}
 use Rattle.plural_map.proofs.OrderLemmas.{order_ready, order_within, ready_task}
-use Rattle.plural_serial.specs.Program.{no_task}
 
 -- Each task of the list has an outcome.
 pub record HasOutcomes (done : List ℕ) (outcomes : List (Option Outcome)) : Type 0 where

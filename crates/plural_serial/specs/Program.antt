@@ -1,6 +1,6 @@
 -- A program: a map of tasks, the code that they share, and the pc at which each task begins.
-use Rattle.std.specs.Prelude.{ℕ, ◌≡◌, ◌%◌, ◌<◌, List, [], length, slice_index, slice_index_or, false}
-use Rattle.plural_map.specs.Value.{TaskValue, MapValue}
+use Rattle.std.specs.Prelude.{ℕ, ◌≡◌, ◌%◌, ◌<◌, List, length, slice_index}
+use Rattle.plural_map.specs.Value.{TaskValue, MapValue, task_of}
 use Rattle.plural_core.specs.Turn.{Place, State, Step, start_of}
 use Rattle.plural_core.specs.Life.{life}
 
@@ -15,13 +15,9 @@ pub record IsProgram (p : ProgramValue) : Type 0 where
   pub one_each : length p.entries ≡ length p.map.tasks
   pub aligned : (t : ℕ) → t < length p.entries → slice_index p.entries t % 4 ≡ 0
 
--- What stands past the last task.
-abbrev pub no_task : TaskValue
-no_task = record { name = []; dup = false; quota = 0; entry = []; budget = 0; some = false; deps = []; regions = [] }
-
 -- The task of number t.
 abbrev pub task_at : ProgramValue → ℕ → TaskValue
-task_at p t = slice_index_or p.map.tasks t no_task
+task_at p t = task_of p.map.tasks t
 
 -- Where instance k of task t runs: the code, the task's regions, its number, its budget.
 abbrev pub place_at : ProgramValue → (t k : ℕ) → Place

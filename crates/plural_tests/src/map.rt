@@ -17,7 +17,16 @@ fn after_two(name: Name, some: bool, first: (When, Outcome), second: (When, Outc
         task: 1,
         when: second.0,
     });
-    let task = Task::of(name, false, 1, name, 9, some, deps, ArrayVec::new());
+    let task = Task::of(TaskParts {
+        name,
+        dup: false,
+        quota: 1,
+        entry: name,
+        budget: 9,
+        some,
+        deps,
+        regions: ArrayVec::new(),
+    });
     decide(&task, &[Some(first.1), Some(second.1)])
 }
 

@@ -6,12 +6,12 @@ use Rattle.std.proofs.lemmas.List.Sums.{sum_by-cons}
 use Rattle.std.proofs.lemmas.List.{length_push, drop_more, drop_all, length-append, length-map}
 use Rattle.plural_map.specs.declared.outcome.Decision.{Decision}
 use Rattle.plural_map.specs.declared.outcome.Decision.TheVariants as decision
-use Rattle.plural_map.specs.Value.{TaskValue}
+use Rattle.plural_map.specs.Value.{TaskValue, no_task}
 use Rattle.plural_map.specs.Limits.{IsMap}
 use Rattle.plural_map.specs.Order.{is_among, order_of}
 use Rattle.plural_map.specs.Decisions.{decided}
 use Rattle.plural_map.proofs.OrderLemmas.{order_within, order_new, among_push}
-use Rattle.plural_serial.specs.Program.{ProgramValue, no_task, task_at}
+use Rattle.plural_serial.specs.Program.{ProgramValue, task_at}
 use Rattle.plural_serial.specs.Answer.{record_of}
 use Rattle.plural_trace.specs.Laws.{SerialFits}
 use Rattle.plural_trace.proofs.Judged.{records_within, outcomes_each}

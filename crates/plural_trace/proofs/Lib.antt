@@ -6,7 +6,6 @@ pub mod Standing
 pub mod Judged
 pub mod SerialEntries
 pub mod Fits
-pub mod Ordered
 pub mod Sequenced
 pub mod Stretches
 pub mod SerialLegal

@@ -1,4 +1,4 @@
-use Rattle.plural_map.proofs.Declared.{declared_order}
+use Rattle.plural_map.proofs.DeclarationOrder.{declared_order}
 use Rattle.plural_map.proofs.laws.declared_order.Goals as goal
 
 pub returns : goal.returns

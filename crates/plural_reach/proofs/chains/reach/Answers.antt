@@ -3,7 +3,7 @@ use Rattle.plural_reach.specs.declared.set.TaskSet.{TaskSet}
 use Rattle.std.specs.Prelude.{slice_index}
 use Rattle.plural_map.specs.Value.{TaskValue}
 use Rattle.plural_reach.specs.Rows.{row}
-use Rattle.plural_reach.proofs.Filling.{item_within, few_deps, filled, finished, reaches_all}
+use Rattle.plural_reach.proofs.TableEntries.{item_within, few_deps, filled, finished, reaches_all}
 use Rattle.plural_reach.proofs.ChainLemmas.{chain_step, chain_local, chains_exact}
 use Rattle.plural_reach.proofs.chains.reach.Goals as goal
 

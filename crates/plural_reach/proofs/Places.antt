@@ -1,45 +1,32 @@
--- Along a map's order no task comes before itself or an earlier one.
-use Rattle.std.proofs.Common.{◌≡◌, ℕ, zero, suc, ◌<◌, ◌≤◌, Bool, true, false, ◌||◌, eqb, List, [], ◌∷◌, length, take, get_or, refl, sym, ap, subst, ◌∙◌, arith, eqb-true}
+-- Places in the order: no task comes before itself or an earlier one of it.
+use Rattle.std.proofs.Common.{◌≡◌, ℕ, zero, suc, ◌<◌, ◌≤◌, Bool, true, false, ◌||◌, eqb, List, [], ◌∷◌, ◌++◌, length, take, get_or, refl, sym, ap, subst, ◌∙◌, arith, eqb-true}
 use Rattle.std.specs.Prelude.{slice_index, ◌==◌}
 use Rattle.std.specs.List.{list_any, list_all}
-use Rattle.std.specs.Option.{option_map_or}
 use Rattle.std.proofs.lemmas.Bool.{and_parts, eq-eqb}
 use Rattle.plural_map.specs.declared.outcome.Dep.{Dep}
 use Rattle.plural_map.specs.Value.{TaskValue}
 use Rattle.plural_map.specs.Order.{is_among, order_of}
 use Rattle.plural_map.proofs.OrderLemmas.{order_ready, ready_task, order_new}
-use Rattle.plural_reach.specs.Chains.{deps_of, DependsOn, LeadsBack, Before}
-
-or_right : (a b : Bool) → b ≡ true → (a || b) ≡ true
-or_right true b e = refl
-or_right false b e = e
-
--- What all dependencies pass, a task that one of them names passes.
-dep_done : (deps : List Dep) (done : List ℕ) (t : ℕ) → list_all (λ d. is_among d.task done) deps ≡ true → list_any (λ d. d.task == t) deps ≡ true → is_among t done ≡ true
-dep_done [] done t a h = absurd cc
-dep_done (d ∷ ds) done t a h = by (eqb d.task t) (λ k. dep_done ds done t p.1 k) refl h
-  where
-    p : (is_among d.task done ≡ true) × (list_all (λ d. is_among d.task done) ds ≡ true)
-    p = and_parts (is_among d.task done) (list_all (λ d. is_among d.task done) ds) a
-
-    by : (b : Bool) → (list_any (λ d. d.task == t) ds ≡ true → is_among t done ≡ true) → eqb d.task t ≡ b → (b || list_any (λ d. d.task == t) ds) ≡ true → is_among t done ≡ true
-    by true later e k = ap (λ u. is_among u done) (sym (eqb-true d.task t e)) ∙ p.0
-    by false later e k = later k
+use Rattle.plural_reach.specs.Chains.{DependsOn, LeadsBack, Before}
+use Rattle.plural_reach.specs.Laws.{BeforeThrough}
+use Rattle.plural_reach.proofs.DepLemmas.{or_right, all_at}
+use Rattle.plural_reach.proofs.ChainLemmas.{deps_at}
 
 -- The tasks that one depends on stand before it.
-step_back : (tasks : List TaskValue) (i t : ℕ) → i < length (order_of tasks) → DependsOn tasks (slice_index (order_of tasks) i) t → is_among t (take i (order_of tasks)) ≡ true
+pub step_back : (tasks : List TaskValue) (i t : ℕ) → i < length (order_of tasks) → DependsOn tasks (slice_index (order_of tasks) i) t → is_among t (take i (order_of tasks)) ≡ true
 step_back tasks i t l h =
     let r = ready_task tasks (take i (order_of tasks)) (slice_index (order_of tasks) i) (order_ready tasks i l) in
-    let deps : deps_of tasks (slice_index (order_of tasks) i) ≡ r.0.deps = ap (λ o. option_map_or (λ task. task.deps) o []) r.1 in
-    dep_done r.0.deps (take i (order_of tasks)) t r.2 (ap (list_any (λ d. d.task == t)) (sym deps) ∙ h)
+    let deps = deps_at tasks (slice_index (order_of tasks) i) r.0 r.1 in
+    all_at (λ u. is_among u (take i (order_of tasks))) r.0.deps t r.2 (ap (list_any (λ d. d.task == t)) (sym deps) ∙ h)
 
 -- A number among the first i has a place below i.
-pub record IsAt (xs : List ℕ) (i t : ℕ) : Type 0 where
+record IsAt (xs : List ℕ) (i t : ℕ) : Type 0 where
   pub at : ℕ
   pub below : at < i
   pub within : at < length xs
   pub there : get_or xs at 0 ≡ t
 
+-- A number among the first i is found there.
 found_in : (xs : List ℕ) (i t : ℕ) → is_among t (take i xs) ≡ true → IsAt xs i t
 found_in xs zero t h = absurd cc
 found_in [] (suc i) t h = absurd cc
@@ -82,3 +69,11 @@ places_differ tasks i j lt l e =
     let a = among_at (order_of tasks) j i lt (omega arith) in
     let f : true ≡ false = sym a ∙ ap (λ u. is_among u (take j (order_of tasks))) e ∙ order_new tasks j l in
     cc
+
+leads_through : (tasks : List TaskValue) (later earlier : List ℕ) (t u v : ℕ) → LeadsBack tasks v later u → LeadsBack tasks u earlier t → LeadsBack tasks v (later ++ u ∷ earlier) t
+leads_through tasks [] earlier t u v h g = (h, g)
+leads_through tasks (w ∷ later) earlier t u v h g = (h.0, leads_through tasks later earlier t u w h.1 g)
+
+-- Coming before is transitive.
+pub before_through : BeforeThrough
+before_through tasks t u v h g = (g.0 ++ u ∷ h.0, leads_through tasks g.0 h.0 t u v g.1 h.1)

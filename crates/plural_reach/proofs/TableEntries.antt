@@ -40,23 +40,27 @@ row-set_other sets t u p s h = ⊎_elim
 
 -- ---- a map's order
 
+-- Each number of a map's order is that of a task.
 pub item_within : (m : MapValue) → IsMap m → (items : List ℕ) → items ≡ m.order → (i : ℕ) → i < length items → slice_index items i < length m.tasks
 item_within m is items e i l =
     let f : items ≡ order_of m.tasks = e ∙ is.ordered in
     let k : i < length (order_of m.tasks) = omega (arith, ap length f) in
     subst (λ (xs : List ℕ). slice_index xs i < length m.tasks) (sym f) (order_within m.tasks i k)
 
+-- A task of a map depends on tasks below 256.
 pub few_deps : (m : MapValue) → IsMap m → (t : ℕ) (task : TaskValue) → t < length m.tasks → task ≡ get_or m.tasks t task → All (λ d. d.task < 256) task.deps
 few_deps m is t task l e =
     let each : IsTask m.words m.tasks task = subst (λ (x : TaskValue). IsTask m.words m.tasks x) (sym e) (is.each t task l) in
     let few = is.few_tasks in
     All-weaker (λ (d : Dep). d.task < length m.tasks) (λ (d : Dep). d.task < 256) (λ d h. omega arith) task.deps each.deps_within
 
+-- A map's order reaches each task.
 pub reaches_all : (m : MapValue) → IsMap m → (t : ℕ) → t < length m.tasks → is_among t (order_of m.tasks) ≡ true
 reaches_all m is t l = subst (λ (xs : List ℕ). is_among t xs ≡ true) is.ordered (is.reaches t l)
 
 -- ---- one entry more, and the last
 
+-- Along a map's order, one entry more is made as its step says.
 pub filled : (step : Step) → IsLocal step → (m : MapValue) → IsMap m → (items : List ℕ) → items ≡ m.order → (i : ℕ) → i < length items → (sets : List TaskSet) → length sets ≡ 256
     → Solves step m.tasks (take i items) (row sets) → (s : TaskSet) (task : TaskValue) → task ≡ get_or m.tasks (slice_index items i) task → ((p : ℕ) → has s p ≡ step (row sets) task p)
     → Solves step m.tasks (take (i + 1) items) (row (set sets (slice_index items i) s))
@@ -71,5 +75,6 @@ filled step local m is items e i l sets size old s task at made =
     (λ t p n. row-set_other sets (slice_index items i) t p s n)
     (λ x g p. row-set_same sets (slice_index items i) p s (omega arith) ∙ (made p ∙ ap (λ (y : TaskValue). step (row sets) y p) (at ∙ get_or_from_slice_get m.tasks (slice_index items i) x task g))))
 
+-- After the whole order all entries are.
 pub finished : (step : Step) (m : MapValue) → IsMap m → (items : List ℕ) → items ≡ m.order → (i : ℕ) → length items ≤ i → (f : ℕ → ℕ → Bool) → Solves step m.tasks (take i items) f → Solves step m.tasks (order_of m.tasks) f
 finished step m is items e i l f h = subst (λ (xs : List ℕ). Solves step m.tasks xs f) (take_all i items l ∙ (e ∙ is.ordered)) h

@@ -37,7 +37,7 @@ not_among_range a (suc n) t past =
 old_not_ready : (tasks : List TaskValue) (k j : ℕ) → j < k → is_ready tasks (range_with_len 0 k) j ≡ false
 old_not_ready tasks k j h = rw (among_range 0 k j (omega arith) (omega arith)) refl
 
--- The number behind the range is ready.
+-- The number after the range is ready.
 new_ready : (tasks : List TaskValue) (k : ℕ) → IsDeclaredInOrder tasks → k < length tasks → is_ready tasks (range_with_len 0 k) k ≡ true
 new_ready tasks k before h = rw (not_among_range 0 k k (omega arith)) (by_task (slice_get_cases tasks k).1)
   where
@@ -46,7 +46,7 @@ new_ready tasks k before h = rw (not_among_range 0 k k (omega arith)) (by_task (
         (All-weaker (λ (p : Dep). p.task < k) (λ (p : Dep). is_among p.task (range_with_len 0 k) ≡ true) (λ p l. among_range 0 k p.task (omega arith) (omega arith)) c.0.deps (rw c.3 at (before k c.0 h))))
     by_task (inr c) = absurd (omega (arith, c.0))
 
--- The next number is the one behind the range.
+-- The next number is the one after the range.
 next_at : (tasks : List TaskValue) (k : ℕ) → IsDeclaredInOrder tasks → k < length tasks → next_ready tasks (range_with_len 0 k) ≡ Some k
 next_at tasks k before h = rw (at, length-range_with_len 0 (length tasks), lt-ltb k (length tasks) h) refl
   where
@@ -67,5 +67,6 @@ order_from_range (suc fuel) k tasks before e =
     let m : range_with_len 0 (k + 1) ≡ range_with_len 0 k ++ k ∷ [] = range_push k in
     rw (next_at tasks k before (omega arith), ← m) (order_from_range fuel (k + 1) tasks before (omega arith))
 
+-- Tasks that depend on earlier ones alone run in the order of their declaration.
 pub declared_order : DeclaredOrder
 declared_order tasks before = order_from_range (length tasks) 0 tasks before (omega arith)

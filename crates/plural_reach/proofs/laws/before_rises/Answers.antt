@@ -1,0 +1,5 @@
+use Rattle.plural_reach.proofs.Ranks.{before_rises}
+use Rattle.plural_reach.proofs.laws.before_rises.Goals as goal
+
+pub returns : goal.returns
+returns c = before_rises

@@ -1,0 +1,5 @@
+use Rattle.plural_reach.proofs.Places.{before_through}
+use Rattle.plural_reach.proofs.laws.before_through.Goals as goal
+
+pub returns : goal.returns
+returns c = before_through

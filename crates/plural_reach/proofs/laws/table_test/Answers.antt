@@ -1,0 +1,5 @@
+use Rattle.plural_reach.proofs.Ranks.{table_test}
+use Rattle.plural_reach.proofs.laws.table_test.Goals as goal
+
+pub returns : goal.returns
+returns c = table_test
