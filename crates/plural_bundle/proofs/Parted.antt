@@ -154,7 +154,7 @@ a_bundle_has_parts lines more end texts f =
     let input : List TextLine = lines ++ more in
     let b = first_of input lines end f in
     let m = map_header input lines b.0 end f b.1 in
-    let a0 = advance input lines m.0 0 end (codes "[kernels]") (map.Breaks (names_of (kernel_lines input))) map_fault (stage_map input lines b.0 m.0 b.1 m.1) (map_section input lines) f some_9 refl in
+    let a0 = advance input lines m.0 0 end (codes "[kernels]") (map.Breaks 1 (names_of (kernel_lines input)) (map_lines lines)) map_fault (stage_map input lines b.0 m.0 b.1 m.1) (map_section input lines) f some_9 refl in
     let a1 = advance input lines a0.more 1 end (codes "[image]") (asm.Breaks (kernel_lines lines)) kernel_fault a0.next (kernel_section input lines) f some_7 refl in
     let a2 = advance input lines a1.more 2 end (codes "[end]") (image.Breaks (map_of (map_lines lines)).words) image_fault a1.next (image_section input lines) f some_5 refl in
     let last : a2.more ≡ [] =
@@ -162,8 +162,8 @@ a_bundle_has_parts lines more end texts f =
     let kernel_own : kernel_lines lines ≡ a1.lines = kernels_is lines b.0 m.0 a0.lines a0.back a0.more b.1 m.1 a0.whole a0.none a0.behind ∙ sym a1.own in
     let map_own : map_lines lines ≡ a0.lines = map_is lines b.0 m.0 b.1 m.1 ∙ sym a0.own in
     let names_own : kernel_lines input ≡ a1.lines = kernels_in lines more b.0 m.0 a0.lines a0.back a0.more a1.lines a1.back a1.more b.1 m.1 a0.whole a0.none a0.behind a1.whole a1.none a1.behind in
-    let map_good : IsFaultless (map.Breaks (names_of (kernel_lines input))) (closed a0.lines a0.behind.number) =
-    faultless_push (map.Breaks (names_of (kernel_lines input))) a0.lines (a0.behind.number, []) a0.good (λ k o. a0.closing (map_fault k) (inr (k, refl, o))) in
+    let map_good : IsFaultless (map.Breaks 1 (names_of (kernel_lines input)) (map_lines lines)) (closed a0.lines a0.behind.number) =
+    faultless_push (map.Breaks 1 (names_of (kernel_lines input)) (map_lines lines)) a0.lines (a0.behind.number, []) a0.good (λ k o. a0.closing (map_fault k) (inr (k, refl, o))) in
     let parts : Parts =
     record { first = b.1.first; at_map = m.1.number; map_part = a0.lines; at_kernels = a0.behind.number; kernel_part = a1.lines; at_image = a1.behind.number; image_part = a2.lines; at_end = a2.behind.number } in
     let from_end : a2.back ≡ (a2.behind.number, codes "[end]") ∷ [] = a2.behind.whole ∙ ap (λ x. (a2.behind.number, codes "[end]") ∷ x) last in
@@ -174,7 +174,8 @@ a_bundle_has_parts lines more end texts f =
     let good : AreGood parts = record {
       first = b.1.good;
       map_stays = a0.none;
-      map_good = subst (λ l. IsFaultless (map.Breaks (names_of l)) (closed a0.lines a0.behind.number)) names_own map_good;
+      map_good = subst (λ l. IsFaultless (map.Breaks 1 (names_of a1.lines) l) (closed a0.lines a0.behind.number)) map_own
+          (subst (λ l. IsFaultless (map.Breaks 1 (names_of l) (map_lines lines)) (closed a0.lines a0.behind.number)) names_own map_good);
       kernels_stay = a1.none;
       kernels_good = subst (λ l. IsFaultless (asm.Breaks l) a1.lines) kernel_own a1.good;
       image_stays = a2.none;

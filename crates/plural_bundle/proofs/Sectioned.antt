@@ -24,7 +24,7 @@ in_closing b X Y e = ap (λ t. InSection t X Y) e
 pub in_staying : (b : Bool) (X Y : Type 0) → b ≡ false → InSection b X Y ≡ Y
 in_staying b X Y e = ap (λ t. InSection t X Y) e
 
-pub map_section : (input all : List TextLine) → Section input all 0 (codes "[kernels]") (map.Breaks (names_of (kernel_lines input))) map_fault
+pub map_section : (input all : List TextLine) → Section input all 0 (codes "[kernels]") (map.Breaks 1 (names_of (kernel_lines input)) (map_lines all)) map_fault
 map_section input all = record {
   stays = λ before text f e. in_staying (closes text) _ _ e;
   missing = λ before text e o. subst (λ X. X) (sym (in_closing (closes text) _ _ e)) (inl (refl, o));
@@ -63,9 +63,5 @@ image_rank image_kind.Address = refl
 -- ---- the line that closes the map's section
 
 -- its only fault is of form
-pub closing_form : (labels : List (List ℕ)) (before : List TextLine) (k : MapKind) → map.Breaks labels before [] k → k ≡ map_kind.Form
-closing_form labels before map_kind.Form b = refl
-closing_form labels before map_kind.Number b = absurd (let e : false ≡ true = b in cc)
-closing_form labels before map_kind.Name b = absurd (let e : false ≡ true = b in cc)
-closing_form labels before map_kind.Count b = absurd (let e : false ≡ true = b in cc)
-closing_form labels before (map_kind.Outside k) b = absurd b
+pub closing_form : (labels : List (List ℕ)) (all before : List TextLine) (k : MapKind) → map.Breaks 1 labels all before [] k → k ≡ map_kind.Form
+closing_form labels all before k b = b.0

@@ -59,7 +59,7 @@ pub record AtMap (all r1 r2 lines back : List TextLine) : Type 0 where
 pub record AtKernels (input all r1 r2 maps back r4 lines after : List TextLine) (labels : List (List ℕ)) (number : ℕ) : Type 0 where
   pub at_map : AtMap all r1 r2 maps back
   pub names : labels ≡ names_of (kernel_lines input)
-  pub good : IsFaultless (map.Breaks labels) (closed maps number)
+  pub good : map.IsMapText 1 labels maps number
   pub header : IsBehind (codes "[kernels]") back r4
   pub own : lines ≡ up_to_header r4
   pub whole : r4 ≡ lines ++ after
@@ -77,13 +77,17 @@ pub record AtImage (input all r1 r2 maps back r4 kernels after r6 lines last : L
 pub at_map : {all r1 r2 lines back : List TextLine} → IsBegun all r1 → IsBehind (codes "[map]") r1 r2 → lines ≡ up_to_header r2 → r2 ≡ lines ++ back → IsClosed back → AtMap all r1 r2 lines back
 at_map b h o w s = record { begun = b; header = h; own = o; whole = w; shut = s }
 
-pub at_kernels : (input : List TextLine) {all r1 r2 maps back r4 lines after : List TextLine} {labels : List (List ℕ)} {number : ℕ} → AtMap all r1 r2 maps back → labels ≡ names_of (kernel_lines input) → IsFaultless (map.Breaks labels) (closed maps number)
+pub at_kernels : (input : List TextLine) {all r1 r2 maps back r4 lines after : List TextLine} {labels : List (List ℕ)} {number : ℕ} → AtMap all r1 r2 maps back → labels ≡ names_of (kernel_lines input) → map.IsMapText 1 labels maps number
     → IsBehind (codes "[kernels]") back r4 → lines ≡ up_to_header r4 → r4 ≡ lines ++ after → IsClosed after → AtKernels input all r1 r2 maps back r4 lines after labels number
 at_kernels input a n g h o w s = record { at_map = a; names = n; good = g; header = h; own = o; whole = w; shut = s }
 
 pub at_image : {input all r1 r2 maps back r4 kernels after r6 lines last : List TextLine} {labels : List (List ℕ)} {number : ℕ} → AtKernels input all r1 r2 maps back r4 kernels after labels number → IsFaultless (asm.Breaks kernels) kernels
     → IsBehind (codes "[image]") after r6 → lines ≡ up_to_header r6 → r6 ≡ lines ++ last → IsClosed last → AtImage input all r1 r2 maps back r4 kernels after r6 lines last labels number
 at_image a g h o w s = record { at_kernels = a; good = g; header = h; own = o; whole = w; shut = s }
+
+-- The rule of the map's lines, by the names of the input and all lines of the section.
+abbrev pub MapRule : (input all : List TextLine) → List TextLine → List ℕ → MapKind → Type 0
+MapRule input all = map.Breaks 1 (names_of (kernel_lines input)) (map_lines all)
 
 module _ (input all r1 r2 maps back : List TextLine) (a : AtMap all r1 r2 maps back) where
   pub map_none : NoneCloses maps
@@ -95,32 +99,39 @@ module _ (input all r1 r2 maps back : List TextLine) (a : AtMap all r1 r2 maps b
   pub map_own : map_lines all ≡ maps
   map_own = map_is all r1 r2 a.begun a.header ∙ sym a.own
 
-  pub kernels_missing : (end number : ℕ) (labels : List (List ℕ)) (e : BundleError) → labels ≡ names_of (kernel_lines input) → IsFaultless (map.Breaks labels) (closed maps number) → IsMissing (codes "[kernels]") back end e → Faults input all end e
+  pub own_map_rule : (labels : List (List ℕ)) (number : ℕ) → labels ≡ names_of (kernel_lines input) → map.IsMapText 1 labels maps number → IsFaultless (MapRule input all) (closed maps number)
+  own_map_rule labels number names good =
+      subst (λ l. IsFaultless (map.Breaks 1 (names_of (kernel_lines input)) l) (closed maps number)) (sym map_own) (subst (λ l. map.IsMapText 1 l maps number) names good)
+
+  pub kernels_missing : (end number : ℕ) (labels : List (List ℕ)) (e : BundleError) → labels ≡ names_of (kernel_lines input) → map.IsMapText 1 labels maps number → IsMissing (codes "[kernels]") back end e → Faults input all end e
   kernels_missing end number labels e names good m =
-      section_missing input all r2 0 (codes "[kernels]") (map.Breaks (names_of (kernel_lines input))) map_fault map_stage (map_section input all) maps back end e map_none a.whole
-      (last_none (map.Breaks (names_of (kernel_lines input))) maps (number, []) (subst (λ l. IsFaultless (map.Breaks l) (closed maps number)) names good)).0 a.shut m
+      section_missing input all r2 0 (codes "[kernels]") (MapRule input all) map_fault map_stage (map_section input all) maps back end e map_none a.whole
+      (last_none (MapRule input all) maps (number, []) (own_map_rule labels number names good)).0 a.shut m
 
   -- the map's first fault, where it is that of the line that closes its section
-  map_closing : (end : ℕ) (k : MapKind) → IsFaultless (map.Breaks (names_of (kernel_lines input))) maps → map.Breaks (names_of (kernel_lines input)) maps [] k → Faults input all end (At (head_of back end).0 (map_fault k))
+  map_closing : (end : ℕ) (k : MapKind) → IsFaultless (MapRule input all) maps → MapRule input all maps [] k → Faults input all end (At (head_of back end).0 (map_fault k))
   map_closing end k good b =
-      let same = closing_form (names_of (kernel_lines input)) maps k b in
+      let same = closing_form (names_of (kernel_lines input)) (map_lines all) maps k b in
       let here : SectionBreaks input all 0 maps (head_of back end).1 fault.Form =
       subst (λ X. X) (sym (in_closing (closes (head_of back end).1) _ _ (head_closes back end a.shut))) (inr (k, sym (ap map_fault same), b)) in
       subst (λ f. Faults input all end (At (head_of back end).0 f)) (sym (ap map_fault same))
       (form_first input all (front map_stage ++ maps) back end (At (head_of back end).0 fault.Form)
-      (section_closed input all r2 0 (codes "[kernels]") (map.Breaks (names_of (kernel_lines input))) map_fault map_stage (map_section input all) maps back end a.whole ∙ sym (append_assoc (front map_stage) maps (closed back end)))
-      (section_faultless input all r2 0 (codes "[kernels]") (map.Breaks (names_of (kernel_lines input))) map_fault map_stage (map_section input all) maps map_none good)
+      (section_closed input all r2 0 (codes "[kernels]") (MapRule input all) map_fault map_stage (map_section input all) maps back end a.whole ∙ sym (append_assoc (front map_stage) maps (closed back end)))
+      (section_faultless input all r2 0 (codes "[kernels]") (MapRule input all) map_fault map_stage (map_section input all) maps map_none good)
       (subst (λ X. X) (sym (rule input all r2 0 map_stage maps map_none (head_of back end).1 fault.Form)) here) refl)
 
-  map_first : (end number line : ℕ) (k : MapKind) → number ≡ (head_of back end).0 → IsFirstFault map.rank (map.Breaks (names_of (kernel_lines input))) (closed maps number) line k → Faults input all end (At line (map_fault k))
-  map_first end number line k n f = elim (last_first map.rank (map.Breaks (names_of (kernel_lines input))) maps (number, []) line k f) [
-    | inl first ↦ section_first input all r2 0 (codes "[kernels]") (map.Breaks (names_of (kernel_lines input))) map_fault map_stage (map_section input all) map.rank maps back end line k map_rank map_none a.whole first
+  map_first : (end number line : ℕ) (k : MapKind) → number ≡ (head_of back end).0 → IsFirstFault map.rank (MapRule input all) (closed maps number) line k → Faults input all end (At line (map_fault k))
+  map_first end number line k n f = elim (last_first map.rank (MapRule input all) maps (number, []) line k f) [
+    | inl first ↦ section_first input all r2 0 (codes "[kernels]") (MapRule input all) map_fault map_stage (map_section input all) map.rank maps back end line k map_rank map_none a.whole first
     | inr last ↦ subst (λ x. Faults input all end (At x (map_fault k))) (sym (last.1 ∙ n)) (map_closing end k last.0 last.2)
   ]
 
-  pub map_faults : (end number : ℕ) (labels : List (List ℕ)) (e : MapError) → labels ≡ names_of (kernel_lines input) → number ≡ (head_of back end).0 → map.Faults labels (closed maps number) e → Faults input all end (kinds.map_error e)
+  pub map_faults : (end number : ℕ) (labels : List (List ℕ)) (e : MapError) → labels ≡ names_of (kernel_lines input) → number ≡ (head_of back end).0 → map.Faults 1 labels maps number e → Faults input all end (kinds.map_error e)
   map_faults end number labels map_error.Memory names n f = tt
-  map_faults end number labels (map_error.At line k) names n f = map_first end number line k n (subst (λ l. IsFirstFault map.rank (map.Breaks l) (closed maps number) line k) names f)
+  map_faults end number labels (map_error.At line k) names n f =
+      map_first end number line k n
+      (subst (λ l. IsFirstFault map.rank (map.Breaks 1 (names_of (kernel_lines input)) l) (closed maps number) line k) (sym map_own)
+      (subst (λ l. IsFirstFault map.rank (map.Breaks 1 l maps) (closed maps number) line k) names f))
 
 module _ (input all r1 r2 maps back r4 lines after : List TextLine) (labels : List (List ℕ)) (number : ℕ) (a : AtKernels input all r1 r2 maps back r4 lines after labels number) where
   pub kernels_none : NoneCloses lines
@@ -131,8 +142,8 @@ module _ (input all r1 r2 maps back r4 lines after : List TextLine) (labels : Li
 
   pub kernels_stage : Stage input all 1 r4
   kernels_stage =
-      let good = last_none (map.Breaks (names_of (kernel_lines input))) maps (number, []) (subst (λ l. IsFaultless (map.Breaks l) (closed maps number)) a.names a.good) in
-      stage_next input all r2 0 (codes "[kernels]") (map.Breaks (names_of (kernel_lines input))) map_fault (map_stage input all r1 r2 maps back a.at_map) (map_section input all) maps back r4 (map_none input all r1 r2 maps back a.at_map) a.at_map.whole
+      let good = last_none (MapRule input all) maps (number, []) (own_map_rule input all r1 r2 maps back a.at_map labels number a.names a.good) in
+      stage_next input all r2 0 (codes "[kernels]") (MapRule input all) map_fault (map_stage input all r1 r2 maps back a.at_map) (map_section input all) maps back r4 (map_none input all r1 r2 maps back a.at_map) a.at_map.whole
       good.0 refl a.header (λ k o. elim o [ inl x ↦ absurd (let f : true ≡ false = x.1 in cc) | inr x ↦ good.1 x.0 x.2 ])
 
   own_rule : IsFaultless (asm.Breaks lines) lines → IsFaultless (asm.Breaks (kernel_lines all)) lines

@@ -4,7 +4,6 @@ use Rattle.std.specs.List.{AllByRecursion}
 use Rattle.plural_bytes.specs.Lines.{TextLine, has_text}
 use Rattle.plural_bytes.specs.Faults.{IsFaultless}
 use Rattle.plural_map_text.specs.Rules as map
-use Rattle.plural_map_text.specs.Rules.{closed}
 use Rattle.plural_map_text.specs.Parts.{map_of}
 use Rattle.plural_asm.specs.Rules as kernels
 use Rattle.plural_asm.specs.Labels.{names_of}
@@ -42,7 +41,7 @@ Stay lines = AllByRecursion (λ l. closes l.1 ≡ false) lines
 pub record AreGood (p : Parts) : Type 0 where
   pub first : first_line_fault p.first.1 ≡ None
   pub map_stays : Stay p.map_part
-  pub map_good : IsFaultless (map.Breaks (names_of p.kernel_part)) (closed p.map_part p.at_kernels)
+  pub map_good : map.IsMapText 1 (names_of p.kernel_part) p.map_part p.at_kernels
   pub kernels_stay : Stay p.kernel_part
   pub kernels_good : IsFaultless (kernels.Breaks p.kernel_part) p.kernel_part
   pub image_stays : Stay p.image_part

@@ -26,12 +26,13 @@ abbrev pub InSection : (closing : Bool) → (Closes Stays : Type 0) → Type 0
 InSection true Closes Stays = Closes
 InSection false Closes Stays = Stays
 
--- A line of the map's section: a map line, or the header of the kernels, before which the map has to be whole.
-abbrev pub MapBreaks : List (List ℕ) → List TextLine → List ℕ → Fault → Type 0
-MapBreaks labels before text fault =
+-- A line of the map's section, which has all these lines: a map line by version 1, or the header of the kernels, before
+-- which the map has to be whole.
+abbrev pub MapBreaks : List (List ℕ) → (maps before : List TextLine) → List ℕ → Fault → Type 0
+MapBreaks labels maps before text fault =
     InSection (closes text)
-    (IsNot (codes "[kernels]") text fault ⊎ Renamed map_fault (λ k. map.Breaks labels before [] k) fault)
-    (Renamed map_fault (λ k. map.Breaks labels before text k) fault)
+    (IsNot (codes "[kernels]") text fault ⊎ Renamed map_fault (λ k. map.Breaks 1 labels maps before [] k) fault)
+    (Renamed map_fault (λ k. map.Breaks 1 labels maps before text k) fault)
 
 -- A line of the kernels' section: a kernel line, or the header of the image.
 abbrev pub KernelBreaks : List TextLine → List TextLine → List ℕ → Fault → Type 0
@@ -49,7 +50,7 @@ PastBreaks text fault = (fault ≡ Form) × (has_text text ≡ true)
 -- the kernels' the second, the image's the third, and nothing follows. The names that map lines may use are those of the
 -- kernel lines of the input that the bundle stands in.
 abbrev pub SectionBreaks : (input all : List TextLine) → ℕ → List TextLine → List ℕ → Fault → Type 0
-SectionBreaks input all zero before text fault = MapBreaks (names_of (kernel_lines input)) before text fault
+SectionBreaks input all zero before text fault = MapBreaks (names_of (kernel_lines input)) (map_lines all) before text fault
 SectionBreaks input all (suc zero) before text fault = KernelBreaks (kernel_lines all) before text fault
 SectionBreaks input all (suc (suc zero)) before text fault = ImageBreaks (map_of (map_lines all)).words before text fault
 SectionBreaks input all (suc (suc (suc n))) before text fault = PastBreaks text fault

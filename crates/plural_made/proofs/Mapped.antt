@@ -7,15 +7,14 @@ use Rattle.std.proofs.lemmas.Bool.{and_parts, leb-true, ltb-true}
 use Rattle.std.proofs.lemmas.List.Elements.{All-nil, All-cons}
 use Rattle.plural_bytes.specs.Lines.{TextLine, content_lines}
 use Rattle.plural_base.specs.Names.{is_name}
-use Rattle.plural_bytes.specs.Faults.{IsFaultless}
 use Rattle.plural_regions.specs.declared.region.Region.{Region}
 use Rattle.plural_map.specs.declared.outcome.Dep.{Dep}
 use Rattle.plural_map.specs.Value.{TaskValue, MapValue}
-use Rattle.plural_map_text.specs.Rules.{Breaks, closed, has}
+use Rattle.plural_map_text.specs.Rules.{Breaks, IsMapText, closed, has}
 use Rattle.plural_map_text.specs.Parts.{map_of}
 use Rattle.plural_map_text.specs.Print.{map_text}
 use Rattle.plural_reread.specs.Laws.{IsSpelledRegion, IsSpelledTask, IsVersion1}
-use Rattle.plural_reread.proofs.Again.{map_again}
+use Rattle.plural_reread.proofs.RoundTrip.{map_round_trip}
 use Rattle.plural_generator.specs.Tasks.{fir_task, top_task, best_task, loud_task, quiet_task, done_task, made_tasks, made_map}
 use Rattle.plural_generator.proofs.Mapped.{made_within}
 use Rattle.plural_bundle.specs.Sections.{closes}
@@ -24,7 +23,7 @@ use Rattle.plural_made.proofs.Whole.{EndsLine}
 use Rattle.plural_made.proofs.Stays.{stay_by}
 use Rattle.plural_made.proofs.Kernels.{kernel_labels}
 use Rattle.plural_made.proofs.Renumbered as renumbered
-use Rattle.plural_made.proofs.Renumbered.{lines_from, faultless_again, lines_again, map_reads, closed_again}
+use Rattle.plural_made.proofs.Renumbered.{lines_from, faultless_again, faultless_apart, lines_again, map_reads, closed_again}
 
 -- The map lines.
 abbrev pub maps : List TextLine
@@ -91,18 +90,19 @@ entries = all_by (HasEntry kernel_labels) (λ t. has kernel_labels t.entry) (λ 
 
 -- ---- the lines
 
--- The map lines have no fault, where the labels are these.
-pub map_good : (labels : List (List ℕ)) (end : ℕ) → labels ≡ kernel_labels → IsFaultless (Breaks labels) (closed maps end)
+-- The map lines have no fault, if the labels are these.
+pub map_good : (labels : List (List ℕ)) (end : ℕ) → labels ≡ kernel_labels → IsMapText 1 labels maps end
 map_good labels end e =
     let ls = content_lines (map_text made_map) in
-    faultless_again (Breaks labels) (closed ls end) (closed maps end) (map_reads labels) (closed_again ls maps end end (lines_again 1 3 (map_text made_map)))
-    (map_again made_map labels end made_within made_version1 (subst (λ names. All (HasEntry names) made_map.tasks) (sym e) entries)).0
+    faultless_apart labels ls maps (closed maps end)
+    (faultless_again (Breaks 1 labels ls) (closed ls end) (closed maps end) (map_reads labels ls) (closed_again ls maps end end (lines_again 1 3 (map_text made_map)))
+    (map_round_trip made_map labels end made_within made_version1 (subst (λ names. All (HasEntry names) made_map.tasks) (sym e) entries)).0)
 
 -- They spell the map.
 pub map_is : map_of maps ≡ made_map
 map_is =
     renumbered.map_again maps (content_lines (map_text made_map)) (lines_again 3 1 (map_text made_map))
-    ∙ (map_again made_map kernel_labels 0 made_within made_version1 entries).1
+    ∙ (map_round_trip made_map kernel_labels 0 made_within made_version1 entries).1
 
 words_are : made_map.words ≡ 32816
 unfolding made_map

@@ -9,6 +9,7 @@ use Rattle.plural_map_text.specs.Rules as map_rules
 use Rattle.plural_map_text.specs.Rules.{closed, HasKind}
 use Rattle.plural_map_text.specs.Shape.{shape_of}
 use Rattle.plural_map_text.specs.Parts.{parts_of, whole, map_of, with_line, nothing}
+use Rattle.plural_map_text.specs.declared.fault.MapKind as map_fault
 use Rattle.plural_map_text.specs.declared.fault.MapKind.TheVariants as map_kind
 use Rattle.plural_image.specs.Shape.{image_line}
 use Rattle.plural_image.specs.Image as image
@@ -70,11 +71,23 @@ parts_again lines others e = fold_again (λ p text. option_map_or (with_line p) 
 pub map_again : (lines others : List TextLine) → texts lines ≡ texts others → map_of lines ≡ map_of others
 map_again lines others e = ap whole (parts_again lines others e)
 
-pub map_reads : (labels : List (List ℕ)) → ReadsTexts (map_rules.Breaks labels)
-map_reads labels before other text kind e b =
+pub map_reads : (labels : List (List ℕ)) (all : List TextLine) → ReadsTexts (map_rules.Breaks 1 labels all)
+map_reads labels all before other [] kind e b = subst (λ n. map_rules.ClosesEarly n kind) (length_again before other e) b
+map_reads labels all before other (c ∷ cs) kind e b =
     let many = length_again before other e in
     let parts = parts_again before other e in
-    subst (λ X. X) (λ i. MatchOption (shape_of text) (kind ≡ map_kind.Form) (λ s. HasKind labels (many i) (parts i) s kind)) b
+    subst (λ X. X) (λ i. MatchOption (shape_of (c ∷ cs)) (kind ≡ map_kind.Form) (λ s. HasKind labels (many i) (parts i) s kind)) b
+
+-- By version 1 all lines of the section play no part.
+all_apart : (labels : List (List ℕ)) (all every before : List TextLine) (text : List ℕ) (kind : map_fault.MapKind) → map_rules.Breaks 1 labels all before text kind → map_rules.Breaks 1 labels every before text kind
+all_apart labels all every before [] kind b = b
+all_apart labels all every before (c ∷ cs) kind b = b
+
+-- So lines without a fault have none, whichever those are.
+pub faultless_apart : (labels : List (List ℕ)) (all every lines : List TextLine) → IsFaultless (map_rules.Breaks 1 labels all) lines → IsFaultless (map_rules.Breaks 1 labels every) lines
+faultless_apart labels all every lines f = record {
+  none = λ n k h. f.none n k (record { before = h.before; text = h.text; after = h.after; whole = h.whole; breaks = all_apart labels every all h.before h.text k h.breaks });
+}
 
 pub closed_again : (lines others : List TextLine) (end last : ℕ) → texts lines ≡ texts others → texts (closed lines end) ≡ texts (closed others last)
 closed_again lines others end last e = map-append (λ (l : TextLine). l.1) lines ((end, []) ∷ []) ∙ ap (λ ts. ts ++ [] ∷ []) e ∙ sym (map-append (λ (l : TextLine). l.1) others ((last, []) ∷ []))

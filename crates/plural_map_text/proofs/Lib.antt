@@ -1,4 +1,4 @@
-pub mod Kept
-pub mod Keeps
+pub mod TaskLimits
+pub mod MapLimits
 pub mod Verdicts
-pub mod Reading
+pub mod ReadLines

@@ -10,7 +10,8 @@ use Rattle.plural_map_text.specs.declared.fault.MapKind.TheVariants as kinds
 use Rattle.plural_map.specs.Value.{TaskValue}
 use Rattle.plural_map_text.specs.Parts.{Parts}
 use Rattle.plural_map_text.specs.RegionOf.{region_of}
-use Rattle.plural_map_text.specs.Rules.{is_out_of_place, is_out_of_range, is_misnamed, is_too_many, IsOutsideAt, IsInsideAt, HasKind}
+use Rattle.plural_map_text.specs.Rules.{is_out_of_place, is_out_of_range, is_misnamed, is_too_many, IsOutsideAt, HasKind}
+use Rattle.plural_map_text.specs.Verdicts.{IsInsideAt}
 
 -- A region that lies inside the memory for all instances has no instance outside.
 inside_has_none : (r : Region) (q w k : ℕ) → AllInside r q w → IsLeastOutside r q w k → ⊥
@@ -20,13 +21,12 @@ inside_has_none r q w k i o =
     let above : w ≤ a = o.outside.1 in
     omega arith
 
--- Where the current task's instances lie inside, none is outside.
-pub not_outside : (p : Parts) (s : MapLine) (k : ℕ) → IsInsideAt p s → IsOutsideAt p s k → ⊥
+-- If the current task's instances lie inside, none is outside.
+not_outside : (p : Parts) (s : MapLine) (k : ℕ) → IsInsideAt p s → IsOutsideAt p s k → ⊥
 not_outside p (line.Memory words) k i o = o
 not_outside p (line.Cache sets ways) k i o = o
 not_outside p (line.Task name kind entry budget) k i o = o
 not_outside p (line.After name when) k i o = o
-not_outside p line.End k i o = o
 not_outside p (line.Region mode base stride count) k i o = by_task p.current i o
   where
     by_task : (t : Option TaskValue) → IsInsideAt (record p { current = t }) (line.Region mode base stride count) → IsOutsideAt (record p { current = t }) (line.Region mode base stride count) k → ⊥

@@ -11,5 +11,6 @@ pub mod Shape
 pub mod RegionOf
 pub mod Parts
 pub mod Rules
+pub mod Verdicts
 pub mod Drafts
 pub mod Print

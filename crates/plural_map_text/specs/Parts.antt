@@ -37,21 +37,37 @@ abbrev pub is_dup : TaskKind → Bool
 is_dup kind.Regular = false
 is_dup (kind.Dup quota) = true
 
+-- The task of a task line, before the lines that belong to it.
+abbrev pub task_of_line : (name : List ℕ) → TaskKind → (entry : List ℕ) → Option ℕ → TaskValue
+task_of_line name kind entry budget = record {
+  name = name;
+  dup = is_dup kind;
+  quota = unwrap_or (quota_of kind) 0;
+  entry = entry;
+  budget = unwrap_or budget 0;
+  some = false;
+  deps = [];
+  regions = [];
+}
+
 -- The parts after one more line. `after`, `read` and `write` belong to the current task.
 abbrev pub with_line : Parts → MapLine → Parts
 with_line p (line.Memory words) = record p { words = unwrap_or words 0 }
 with_line p (line.Cache sets ways) = record p { sets = unwrap_or sets 0; ways = unwrap_or ways 0 }
-with_line p (line.Task name kind entry budget) = record p {
-  earlier = tasks_of p;
-  current = Some (record { name = name; dup = is_dup kind; quota = unwrap_or (quota_of kind) 0; entry = entry; budget = unwrap_or budget 0; some = false; deps = []; regions = [] });
-}
-with_line p (line.After name when) = record p { current = option_map (with_dep (record { task = number_of name p.earlier; when = when })) p.current }
-with_line p (line.Region mode base stride count) = record p { current = option_map (with_region (region_of mode base stride count)) p.current }
-with_line p line.End = p
+with_line p (line.Task name kind entry budget) =
+    record p { earlier = tasks_of p; current = Some (task_of_line name kind entry budget) }
+with_line p (line.After name when) =
+    record p { current = option_map (with_dep (record { task = number_of name p.earlier; when = when })) p.current }
+with_line p (line.Region mode base stride count) =
+    record p { current = option_map (with_region (region_of mode base stride count)) p.current }
+
+-- The parts after what one more line was read as; the line that closes the section changes nothing.
+abbrev pub with_read : Parts → Option MapLine → Parts
+with_read p read = option_map_or (with_line p) read p
 
 -- The parts after one more text line; one without a shape changes nothing.
 abbrev pub with_text : Parts → TextLine → Parts
-with_text p l = option_map_or (with_line p) (shape_of l.1) p
+with_text p l = with_read p (shape_of l.1)
 
 -- The parts before any line.
 abbrev pub nothing : Parts

@@ -1,5 +1,5 @@
 -- The canonical lines of a map: single spaces, decimal numbers without leading zeros, for each task its dependencies,
--- `join some` where one satisfied dependency is enough, and its regions.
+-- `join some` if one satisfied dependency is enough, and its regions.
 use Rattle.std.specs.Prelude.{ℕ, Bool, true, false, List, [], ◌∷◌, ◌++◌, codes, flat_map, slice_get}
 use Rattle.std.specs.Option.{option_map_or}
 use Rattle.std.specs.Fmt.{decimal}
@@ -25,7 +25,9 @@ kind_text true quota = codes " dup " ++ (decimal quota ++ codes " ")
 
 -- task NAME regular entry LABEL budget B, task NAME dup Q entry LABEL budget B
 abbrev pub task_line : TaskValue → List ℕ
-task_line t = codes "task " ++ (t.name ++ (kind_text t.dup t.quota ++ (codes "entry " ++ (t.entry ++ (codes " budget " ++ (decimal t.budget ++ codes "\n"))))))
+task_line t =
+    codes "task " ++ (t.name ++ (kind_text t.dup t.quota
+    ++ (codes "entry " ++ (t.entry ++ (codes " budget " ++ (decimal t.budget ++ codes "\n"))))))
 
 -- `any`, `0` or `1`.
 abbrev pub when_text : When → List ℕ
@@ -53,7 +55,8 @@ region_text r = line_text (mode_text r.mode ∷ decimal r.base ∷ decimal r.str
 
 -- The lines of a task.
 abbrev pub task_text : List TaskValue → TaskValue → List ℕ
-task_text tasks t = task_line t ++ (flat_map (dep_text tasks) t.deps ++ (join_text t.some ++ flat_map region_text t.regions))
+task_text tasks t =
+    task_line t ++ (flat_map (dep_text tasks) t.deps ++ (join_text t.some ++ flat_map region_text t.regions))
 
 -- The lines of a map.
 abbrev pub map_text : MapValue → List ℕ

@@ -12,13 +12,17 @@ use Rattle.plural_map_text.specs.declared.line.TaskKind.TheVariants as kind
 use Rattle.plural_map.specs.declared.outcome.When.{When}
 use Rattle.plural_map.specs.declared.outcome.When.TheVariants.{Any, Code0, Code1}
 
--- The number of a numeral, where it is at most 4,294,967,295; nothing where the token is no numeral.
+-- The number of a numeral, if it is at most 4,294,967,295; nothing if the token is no numeral.
 abbrev pub counted : List ℕ → Option (Option ℕ)
 counted t = option_map (bounded 4294967295) (numeral t)
 
 -- `any`, `0` or `1`.
 abbrev pub when_of : List ℕ → Option When
-when_of t = if bytes_eq t (codes "any") then Some Any else if bytes_eq t (codes "0") then Some Code0 else if bytes_eq t (codes "1") then Some Code1 else None
+when_of t =
+    if bytes_eq t (codes "any") then Some Any
+    else if bytes_eq t (codes "0") then Some Code0
+    else if bytes_eq t (codes "1") then Some Code1
+    else None
 
 -- memory W
 abbrev pub memory_line : List (List ℕ) → Option MapLine
@@ -34,7 +38,8 @@ cache_line ts = None
 abbrev pub task_end : List ℕ → TaskKind → List (List ℕ) → Option MapLine
 task_end n k (e ∷ l ∷ b ∷ v ∷ []) =
     if bytes_eq e (codes "entry") && bytes_eq b (codes "budget")
-    then option_and_then (λ name. option_and_then (λ entry. option_map (λ budget. line.Task name k entry budget) (counted v)) (name_of l)) (name_of n)
+    then option_and_then (λ name. option_and_then (λ entry. option_map (λ budget. line.Task name k entry budget)
+    (counted v)) (name_of l)) (name_of n)
     else None
 task_end n k ts = None
 
@@ -58,12 +63,14 @@ after_line ts = None
 
 -- read BASE STRIDE COUNT, write BASE STRIDE COUNT
 abbrev pub region_line : Mode → List (List ℕ) → Option MapLine
-region_line mode (b ∷ s ∷ c ∷ []) = option_and_then (λ base. option_and_then (λ stride. option_map (λ count. line.Region mode base stride count) (counted c)) (counted s)) (counted b)
+region_line mode (b ∷ s ∷ c ∷ []) =
+    option_and_then (λ base. option_and_then (λ stride. option_map (λ count. line.Region mode base stride count)
+    (counted c)) (counted s)) (counted b)
 region_line mode ts = None
 
--- The shape of a line by its first token; without one it is the end of the section.
+-- The shape of a line by its first token.
 abbrev pub shape : List (List ℕ) → Option MapLine
-shape [] = Some line.End
+shape [] = None
 shape (k ∷ ts) =
     if bytes_eq k (codes "memory") then memory_line ts
     else if bytes_eq k (codes "cache") then cache_line ts

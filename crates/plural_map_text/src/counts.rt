@@ -5,7 +5,7 @@ ghost use Rattle.plural_map_text.specs.Rules.{is_between};
 
 use plural_bytes::bounded_number;
 
-/// The number of a numeral, with nothing inside where it is above 4,294,967,295; nothing where the text is no numeral.
+/// The number of a numeral, with nothing inside if it is above 4,294,967,295; nothing if the text is no numeral.
 pub fn counted(text: &[u8]) -> Option<Option<u32>>
     ensures { result ≡ counted text.now }
 {

@@ -1,15 +1,15 @@
-//! The map so far, and whether a line fits behind it.
-ghost use Rattle.std.specs.Prelude.{◌≡◌, ℕ, ◌+◌, ◌-◌, ◌%◌, ◌<◌, ◌≤◌, List, length, map, sum, bytes_eq, IfNone, OnOk, MatchOption, true, false, ◌==◌, position, nat_le, ⊤, Some, [], option_map};
-ghost use Rattle.std.specs.List.{list_any};
+//! The map so far, and whether a line fits after it.
+ghost use Rattle.std.specs.Prelude.{◌≡◌, ◌≤◌, length, map, sum, IfNone, OnOk, MatchOption, true, false, nat_le, ⊤, Some, option_map};
 ghost use Rattle.std.specs.Option.{option_map_or};
 ghost use Rattle.plural_regions.specs.Bounds.{AllInside, IsLeastOutside};
 ghost use Rattle.plural_map_text.specs.declared.fault.MapKind.{MapKind};
 ghost use Rattle.plural_map.specs.Limits.{is_set_count};
 ghost use Rattle.plural_map_text.specs.RegionOf.{region_of};
-ghost use Rattle.plural_map_text.specs.Parts.{quota_of, is_dup, with_line, tasks_of};
+ghost use Rattle.plural_map_text.specs.Parts.{quota_of, is_dup, with_line, with_read, tasks_of};
 ghost use Rattle.plural_map.specs.Lookup.{number_of, has_task};
 ghost use Rattle.plural_map.specs.Value.{with_dep, with_region};
-ghost use Rattle.plural_map_text.specs.Rules.{has, has_dep, is_between, is_out_of_place, is_out_of_range, is_misnamed, is_too_many, IsOutsideAt, IsInsideAt, IsVerdict, task_count, instance_count};
+ghost use Rattle.plural_map_text.specs.Rules.{has, has_dep, names_current, current_has_dep, is_between, is_out_of_place, is_out_of_range, is_misnamed, is_too_many, IsOutsideAt, task_count, instance_count};
+ghost use Rattle.plural_map_text.specs.Verdicts.{IsInsideAt, IsVerdict};
 ghost use Rattle.plural_map_text.specs.Drafts.{draft_parts};
 
 use crate::counts::is_between;
@@ -73,7 +73,7 @@ fn is_out_of_place(n: usize, draft: &Draft, line: &MapLine) -> bool
     match line {
         MapLine::Memory { .. } => n != 0,
         MapLine::Cache { .. } => n != 1,
-        MapLine::Task { .. } | MapLine::End => n < 2,
+        MapLine::Task { .. } => n < 2,
         MapLine::After { .. } | MapLine::Region { .. } => n < 2 || draft.current.is_none(),
     }
 }
@@ -101,7 +101,7 @@ fn is_out_of_range(line: &MapLine) -> bool
                 && is_between(0, 65_535, stride)
                 && is_between(1, 65_536, count))
         }
-        MapLine::After { .. } | MapLine::End => false,
+        MapLine::After { .. } => false,
     }
 }
 
@@ -122,13 +122,12 @@ fn is_misnamed(labels: &[Name], draft: &Draft, line: &MapLine) -> bool
             !has_task(&draft.earlier, name)
                 || current_has_dep(draft, number_of(&draft.earlier, name))
         }
-        MapLine::Memory { .. } | MapLine::Cache { .. } | MapLine::Region { .. } | MapLine::End =>
-            false,
+        MapLine::Memory { .. } | MapLine::Cache { .. } | MapLine::Region { .. } => false,
     }
 }
 
 fn names_current(draft: &Draft, name: &Name) -> bool
-    ensures { result ≡ option_map_or (λ t. bytes_eq t.name name.now) draft.now.current false }
+    ensures { result ≡ names_current (draft_parts draft.now) name.now }
 {
     match &draft.current {
         None => false,
@@ -137,7 +136,7 @@ fn names_current(draft: &Draft, name: &Name) -> bool
 }
 
 fn current_has_dep(draft: &Draft, number: usize) -> bool
-    ensures { result ≡ option_map_or (has_dep number) draft.now.current false }
+    ensures { result ≡ current_has_dep (draft_parts draft.now) number }
 {
     match &draft.current {
         None => false,
@@ -197,7 +196,7 @@ fn is_too_many(draft: &Draft, line: &MapLine) -> bool
         }
         MapLine::After { .. } => has_all_deps(draft),
         MapLine::Region { .. } => has_all_regions(draft),
-        MapLine::Memory { .. } | MapLine::Cache { .. } | MapLine::End => false,
+        MapLine::Memory { .. } | MapLine::Cache { .. } => false,
     }
 }
 
@@ -231,7 +230,9 @@ fn region_outside(draft: &Draft, region: &Region) -> Option<u32>
 
 fn first_outside(draft: &Draft, line: &MapLine) -> Option<u32>
     requires { is_out_of_range line.now ≡ false }
-    ensures { MatchOption result (IsInsideAt (draft_parts draft.now) line.now) (λ k. IsOutsideAt (draft_parts draft.now) line.now k) }
+    ensures { MatchOption result
+        (IsInsideAt (draft_parts draft.now) line.now)
+        (λ k. IsOutsideAt (draft_parts draft.now) line.now k) }
 {
     match *line {
         MapLine::Region {
@@ -247,7 +248,7 @@ fn first_outside(draft: &Draft, line: &MapLine) -> Option<u32>
     }
 }
 
-/// The fault of a line of a shape, behind `n` lines that spell the draft.
+/// The fault of a line of a shape, after `n` lines that spell the draft.
 pub(crate) fn verdict(labels: &[Name], n: usize, draft: &Draft, line: &MapLine) -> Option<MapKind>
     requires few { length draft.now.earlier.items ≤ 256 }
     requires quotas { instance_count (draft_parts draft.now) ≤ 65536 }
@@ -273,7 +274,8 @@ pub(crate) fn verdict(labels: &[Name], n: usize, draft: &Draft, line: &MapLine) 
 }
 
 fn open_task(draft: &mut Draft, task: Task) -> Result<(), AllocFailed<Task>>
-    ensures { OnOk result (draft_parts draft.new ≡ record (draft_parts draft.old) { earlier = tasks_of (draft_parts draft.old); current = Some task }) }
+    ensures { OnOk result (draft_parts draft.new
+        ≡ record (draft_parts draft.old) { earlier = tasks_of (draft_parts draft.old); current = Some task }) }
 {
     match draft.current.replace(task) {
         None => Ok(()),
@@ -283,7 +285,8 @@ fn open_task(draft: &mut Draft, task: Task) -> Result<(), AllocFailed<Task>>
 
 fn add_dep(draft: &mut Draft, dep: Dep)
     requires { option_map_or (λ t. nat_le 16 (length t.deps)) draft.old.current false ≡ false }
-    ensures { draft_parts draft.new ≡ record (draft_parts draft.old) { current = option_map (with_dep dep) draft.old.current } }
+    ensures { draft_parts draft.new
+        ≡ record (draft_parts draft.old) { current = option_map (with_dep dep) draft.old.current } }
 {
     match &mut draft.current {
         None => {}
@@ -293,7 +296,8 @@ fn add_dep(draft: &mut Draft, dep: Dep)
 
 fn add_region(draft: &mut Draft, region: Region)
     requires { option_map_or (λ t. nat_le 8 (length t.regions)) draft.old.current false ≡ false }
-    ensures { draft_parts draft.new ≡ record (draft_parts draft.old) { current = option_map (with_region region) draft.old.current } }
+    ensures { draft_parts draft.new
+        ≡ record (draft_parts draft.old) { current = option_map (with_region region) draft.old.current } }
 {
     match &mut draft.current {
         None => {}
@@ -301,8 +305,7 @@ fn add_region(draft: &mut Draft, region: Region)
     }
 }
 
-/// Adds a line that has no fault.
-pub(crate) fn add(draft: &mut Draft, line: &MapLine) -> Result<(), AllocFailed<Task>>
+fn add_line(draft: &mut Draft, line: &MapLine) -> Result<(), AllocFailed<Task>>
     requires range { is_out_of_range line.now ≡ false }
     requires room { is_too_many (draft_parts draft.old) line.now ≡ false }
     requires few { length draft.old.earlier.items ≤ 256 }
@@ -350,6 +353,18 @@ pub(crate) fn add(draft: &mut Draft, line: &MapLine) -> Result<(), AllocFailed<T
             add_region(draft, region_of(mode, base, stride, count));
             Ok(())
         }
-        MapLine::End => Ok(()),
+    }
+}
+
+/// Adds what a line without a fault was read as; the line that closes the section adds nothing.
+pub(crate) fn add(draft: &mut Draft, read: &Option<MapLine>) -> Result<(), AllocFailed<Task>>
+    requires range { MatchOption read.now ⊤ (λ line. is_out_of_range line ≡ false) }
+    requires room { MatchOption read.now ⊤ (λ line. is_too_many (draft_parts draft.old) line ≡ false) }
+    requires few { length draft.old.earlier.items ≤ 256 }
+    ensures { OnOk result (draft_parts draft.new ≡ with_read (draft_parts draft.old) read.now) }
+{
+    match read {
+        None => Ok(()),
+        Some(line) => add_line(draft, line),
     }
 }

@@ -2,8 +2,8 @@
 //!
 //! Promise: `parse` answers the map that lines spell, or exactly their first fault (`specs/Parts.antt`,
 //! `specs/Rules.antt`), and `print` writes the canonical lines (`specs/Print.antt`).
-//! Stands on `plural_map`, whose values it spells, and on `plural_bytes` (lines, tokens, numerals). `plural_bundle` reads
-//! the map's section through it, and `plural_generator` prints one.
+//! Stands on `plural_map`, whose values it spells, and on `plural_bytes` (lines, tokens, numerals). `plural_bundle`
+//! reads the map's section through it, and `plural_generator` prints one.
 #![tactic(auto)]
 
 mod counts;

@@ -11,7 +11,7 @@ pub enum TaskKind {
     Dup { quota: Option<u32> },
 }
 
-/// A map line by its shape. A number is `None` where it is above 4,294,967,295.
+/// A map line by its shape. A number is `None` if it is above 4,294,967,295.
 #[derive(Clone, Copy, Debug)]
 pub enum MapLine {
     /// `memory W`
@@ -42,6 +42,4 @@ pub enum MapLine {
         stride: Option<u32>,
         count: Option<u32>,
     },
-    /// The end of the section: a line without tokens, which no content line is.
-    End,
 }

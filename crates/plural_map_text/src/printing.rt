@@ -53,7 +53,7 @@ fn put_task_line(out: &mut Vec<u8>, task: &Task) -> Result<(), Memory>
     Ok(())
 }
 
-/// Puts the name of the task of a number behind what `out` has; nothing where no task has the number.
+/// Appends the name of the task of a number to `out`; nothing if no task has the number.
 pub fn put_name_at(out: &mut Vec<u8>, tasks: &[Task], t: u32) -> Result<(), Memory>
     ensures ok { OnOk result (out.new.items ≡ out.old.items ++ name_at tasks.now t) }
     ensures err { OnErr result (out.new.items ≡ out.old.items) }

@@ -2,14 +2,14 @@
 ghost use Rattle.std.specs.Prelude.{◌≡◌, ◌<◌, ◌≤◌, ◌++◌, length, Some, None, IfOk, IfErr, MatchResult};
 ghost use Rattle.std.specs.List.{range_with_len};
 ghost use Rattle.std.specs.Option.{option_to_list};
-ghost use Rattle.plural_bytes.specs.Faults.{IsFaultless};
 ghost use Rattle.plural_bytes.specs.Spelled.{text_lines};
 ghost use Rattle.plural_map_text.specs.declared.fault.MapError.TheVariants.{Memory};
 ghost use Rattle.plural_map.specs.Limits.{IsMap};
 ghost use Rattle.plural_map.specs.Order.{order_of};
 ghost use Rattle.plural_map_text.specs.Shape.{shape_of};
 ghost use Rattle.plural_map_text.specs.Parts.{map_of, whole, tasks_of};
-ghost use Rattle.plural_map_text.specs.Rules.{Breaks, Faults, closed, instance_count, IsVerdict, IsInsideAt, IsLineFault};
+ghost use Rattle.plural_map_text.specs.Rules.{ClosesEarly, IsMapText, Faults, instance_count};
+ghost use Rattle.plural_map_text.specs.Verdicts.{IsVerdict, IsInsideAt, IsFine, IsShapeFault, IsLineFault};
 ghost use Rattle.plural_map_text.specs.Drafts.{draft_parts};
 
 use crate::draft::{Draft, add, verdict};
@@ -20,14 +20,22 @@ use plural_bytes::{Line, Name};
 use plural_map::{Map, Task};
 use std::alloc::Global;
 
-/// The shape of a line behind `n` lines that spell the draft, or its fault.
-fn checked(labels: &[Name], n: usize, draft: &Draft, text: &[u8]) -> Result<MapLine, MapKind>
+/// What a line that closes the section after `n` lines is read as, or its fault.
+fn closing(n: usize) -> Result<Option<MapLine>, MapKind>
+    ensures ok { IfOk result (λ o. (o ≡ None) × (2 ≤ n)) }
+    ensures fault { IfErr result (λ kind. ClosesEarly n kind) }
+{
+    if n < 2 { Err(MapKind::Form) } else { Ok(None) }
+}
+
+/// What a line with a text after `n` lines that spell the draft is read as, or its fault.
+fn shaped(labels: &[Name], n: usize, draft: &Draft, text: &[u8]) -> Result<MapLine, MapKind>
     requires few { length draft.now.earlier.items ≤ 256 }
     requires quotas { instance_count (draft_parts draft.now) ≤ 65536 }
     ensures shape { IfOk result (λ s. Some s ≡ shape_of text.now) }
     ensures verdict { IfOk result (λ s. IsVerdict labels.now n (draft_parts draft.now) s None) }
     ensures inside { IfOk result (λ s. IsInsideAt (draft_parts draft.now) s) }
-    ensures fault { IfErr result (λ kind. IsLineFault labels.now n (draft_parts draft.now) text.now kind) }
+    ensures fault { IfErr result (λ kind. IsShapeFault labels.now n (draft_parts draft.now) text.now kind) }
 {
     match shape_of(text) {
         None => Err(MapKind::Form),
@@ -36,6 +44,25 @@ fn checked(labels: &[Name], n: usize, draft: &Draft, text: &[u8]) -> Result<MapL
             None => Ok(line),
         },
     }
+}
+
+/// What a line after `n` lines that spell the draft is read as, or its fault. A line without text closes the section.
+fn checked(
+    labels: &[Name],
+    n: usize,
+    draft: &Draft,
+    text: &[u8],
+) -> Result<Option<MapLine>, MapKind>
+    requires few { length draft.now.earlier.items ≤ 256 }
+    requires quotas { instance_count (draft_parts draft.now) ≤ 65536 }
+    ensures fine { IfOk result (λ o. IsFine labels.now n (draft_parts draft.now) text.now o) }
+    ensures fault { IfErr result (λ kind. IsLineFault labels.now n (draft_parts draft.now) text.now kind) }
+{
+    if text.is_empty() {
+        return closing(n);
+    }
+    let line = shaped(labels, n, draft, text)?;
+    Ok(Some(line))
 }
 
 fn all_tasks(earlier: Vec<Task>, current: Option<Task>) -> Result<Vec<Task>, MapError>
@@ -65,7 +92,8 @@ fn numbers(alloc: Global, n: u32) -> Result<Vec<u32>, MapError>
 
 fn finish(alloc: Global, draft: Draft) -> Result<Map, MapError>
     requires map { IsMap (whole (draft_parts draft)) }
-    requires order { order_of (tasks_of (draft_parts draft)) ≡ range_with_len 0 (length (tasks_of (draft_parts draft))) }
+    requires order { order_of (tasks_of (draft_parts draft))
+        ≡ range_with_len 0 (length (tasks_of (draft_parts draft))) }
     ensures ok { IfOk result (λ m. m ≡ whole (draft_parts draft)) }
     ensures err { IfErr result (λ e. e ≡ Memory) }
 {
@@ -87,8 +115,8 @@ pub fn parse(
 ) -> Result<Map, MapError>
     requires { version ≡ 1 }
     ensures { MatchResult result
-        (λ m. IsFaultless (Breaks labels.now) (closed (text_lines lines.now) end) × (m ≡ map_of (text_lines lines.now)))
-        (λ e. Faults labels.now (closed (text_lines lines.now) end) e) }
+        (λ m. IsMapText version labels.now (text_lines lines.now) end × (m ≡ map_of (text_lines lines.now)))
+        (λ e. Faults version labels.now (text_lines lines.now) end e) }
 {
     let _ = version;
     let mut draft = Draft {
@@ -100,7 +128,7 @@ pub fn parse(
     };
     for (n, line) in lines.iter().enumerate() {
         match checked(labels, n, &draft, line.text) {
-            Ok(shape) => add(&mut draft, &shape)?,
+            Ok(read) => add(&mut draft, &read)?,
             Err(kind) => {
                 let line = line.number;
                 return Err(MapError::At { line, kind });

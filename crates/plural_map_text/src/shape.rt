@@ -130,10 +130,7 @@ fn task_line(text: &[u8]) -> Option<MapLine>
 pub(crate) fn shape_of(text: &[u8]) -> Option<MapLine>
     ensures { result ≡ shape_of text.now }
 {
-    let (word, rest) = match next_token(text) {
-        None => return Some(MapLine::End),
-        Some(found) => found,
-    };
+    let (word, rest) = next_token(text)?;
     if is_word(word, b"memory") {
         memory_line(rest)
     } else if is_word(word, b"cache") {

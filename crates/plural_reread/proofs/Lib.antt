@@ -1,6 +1,6 @@
 pub mod Steps
 pub mod Shapes
-pub mod Found
-pub mod Again
-pub mod Named
-pub mod Fits
+pub mod Lookups
+pub mod RoundTrip
+pub mod ShapeNames
+pub mod FaultlessMaps

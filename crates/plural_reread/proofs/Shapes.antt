@@ -26,15 +26,19 @@ line_joined t (u ∷ ts) = ap (λ x. t ++ 32 ∷ x) (line_joined u ts) ∙ sym (
 
 -- ---- memory and cache
 
+-- The tokens of a memory line are tokens.
 pub memory_all : (words : ℕ) → words < 4294967296 → list_all is_token (codes "memory" ∷ decimal words ∷ []) ≡ true
 memory_all words h = all_tokens (codes "memory" ∷ decimal words ∷ []) (refl, (decimal_token words h, tt))
 
+-- They spell it.
 pub memory_shape : (words : ℕ) → words < 4294967296 → shape (codes "memory" ∷ decimal words ∷ []) ≡ Some (line.Memory (Some words))
 memory_shape words h = rw (counted_back words h) refl
 
+-- The tokens of a cache line are tokens.
 pub cache_all : (sets ways : ℕ) → sets < 4294967296 → ways < 4294967296 → list_all is_token (codes "cache" ∷ decimal sets ∷ decimal ways ∷ []) ≡ true
 cache_all sets ways h k = all_tokens (codes "cache" ∷ decimal sets ∷ decimal ways ∷ []) (refl, (decimal_token sets h, (decimal_token ways k, tt)))
 
+-- They spell it.
 pub cache_shape : (sets ways : ℕ) → sets < 4294967296 → ways < 4294967296 → shape (codes "cache" ∷ decimal sets ∷ decimal ways ∷ []) ≡ Some (line.Cache (Some sets) (Some ways))
 cache_shape sets ways h k = rw (counted_back sets h, counted_back ways k) refl
 
@@ -57,6 +61,7 @@ pub kind_of : Bool → ℕ → TaskKind
 kind_of false quota = kind.Regular
 kind_of true quota = kind.Dup (Some quota)
 
+-- A task's kind says whether the task is duplicable.
 pub dup_back : (dup : Bool) (quota : ℕ) → is_dup (kind_of dup quota) ≡ dup
 unfolding kind_of
 dup_back false quota = refl
@@ -68,11 +73,12 @@ unfolding kind_of
 quota_back false quota h = ap (λ n. Some n) (sym (h refl))
 quota_back true quota h = refl
 
--- The tokens behind `task`.
+-- The tokens after `task`.
 pub task_tokens : Bool → ℕ → (name entry : List ℕ) → ℕ → List (List ℕ)
 task_tokens false quota name entry budget = name ∷ codes "regular" ∷ codes "entry" ∷ entry ∷ codes "budget" ∷ decimal budget ∷ []
 task_tokens true quota name entry budget = name ∷ codes "dup" ∷ decimal quota ∷ codes "entry" ∷ entry ∷ codes "budget" ∷ decimal budget ∷ []
 
+-- A task's own line is its tokens with single spaces, and a line end.
 pub task_joined : (t : TaskValue) → task_line t ≡ joined (codes "task" ∷ task_tokens t.dup t.quota t.name t.entry t.budget) ++ 10 ∷ []
 unfolding task_tokens
 task_joined t = by t.dup
@@ -82,6 +88,7 @@ task_joined t = by t.dup
     by false = simp append_assoc refl
     by true = simp append_assoc refl
 
+-- The tokens of a task line are tokens.
 pub task_all : (dup : Bool) (quota : ℕ) (name entry : List ℕ) (budget : ℕ) → quota < 4294967296 → is_name name ≡ true → is_name entry ≡ true → budget < 4294967296
     → list_all is_token (codes "task" ∷ task_tokens dup quota name entry budget) ≡ true
 unfolding task_tokens
@@ -92,6 +99,7 @@ task_all true quota name entry budget q n e b =
     all_tokens (codes "task" ∷ name ∷ codes "dup" ∷ decimal quota ∷ codes "entry" ∷ entry ∷ codes "budget" ∷ decimal budget ∷ [])
     (refl, (name_token name n, (refl, (decimal_token quota q, (refl, (name_token entry e, (refl, (decimal_token budget b, tt))))))))
 
+-- They spell it.
 pub task_shape : (dup : Bool) (quota : ℕ) (name entry : List ℕ) (budget : ℕ) → quota < 4294967296 → is_name name ≡ true → is_name entry ≡ true → budget < 4294967296
     → shape (codes "task" ∷ task_tokens dup quota name entry budget) ≡ Some (line.Task name (kind_of dup quota) entry (Some budget))
 unfolding task_tokens kind_of
@@ -110,9 +118,11 @@ when_back when.Any = refl
 when_back when.Code0 = refl
 when_back when.Code1 = refl
 
+-- The tokens of a dependency's line are tokens.
 pub after_all : (name : List ℕ) (w : When) → is_name name ≡ true → list_all is_token (codes "after" ∷ name ∷ when_text w ∷ []) ≡ true
 after_all name w h = all_tokens (codes "after" ∷ name ∷ when_text w ∷ []) (refl, (name_token name h, (when_token w, tt)))
 
+-- They spell it.
 pub after_shape : (name : List ℕ) (w : When) → is_name name ≡ true → shape (codes "after" ∷ name ∷ when_text w ∷ []) ≡ Some (line.After name w)
 after_shape name w h = rw (name_back name h, when_back w) refl
 
@@ -122,10 +132,12 @@ mode_token : (x : Mode) → is_token (mode_text x) ≡ true
 mode_token mode.Read = refl
 mode_token mode.Write = refl
 
+-- The tokens of a region's line are tokens.
 pub region_all : (x : Mode) (base stride count : ℕ) → base < 4294967296 → stride < 4294967296 → count < 4294967296
     → list_all is_token (mode_text x ∷ decimal base ∷ decimal stride ∷ decimal count ∷ []) ≡ true
 region_all x base stride count b s c = all_tokens (mode_text x ∷ decimal base ∷ decimal stride ∷ decimal count ∷ []) (mode_token x, (decimal_token base b, (decimal_token stride s, (decimal_token count c, tt))))
 
+-- They spell it.
 pub region_shape : (x : Mode) (base stride count : ℕ) → base < 4294967296 → stride < 4294967296 → count < 4294967296
     → shape (mode_text x ∷ decimal base ∷ decimal stride ∷ decimal count ∷ []) ≡ Some (line.Region x (Some base) (Some stride) (Some count))
 region_shape mode.Read base stride count b s c = rw (counted_back base b, counted_back stride s, counted_back count c) refl

@@ -6,51 +6,52 @@ use Rattle.std.proofs.lemmas.Bool.{le-ltb}
 use Rattle.std.proofs.lemmas.List.{append-nil, length-append}
 use Rattle.std.proofs.lemmas.List.Sums.{fold_push}
 use Rattle.plural_bytes.specs.Lines.{TextLine, pieces, content_from}
-use Rattle.plural_bytes.specs.Faults.{IsFaultless}
 use Rattle.plural_bytes.proofs.Tokens.{is_token, joined, tokens_joined, line_next}
 use Rattle.plural_map_text.specs.declared.line.MapLine.{MapLine}
 use Rattle.plural_map_text.specs.declared.line.MapLine.TheVariants as line
 use Rattle.plural_map_text.specs.Shape.{shape, shape_of}
 use Rattle.plural_map_text.specs.Parts.{Parts, with_line, with_text, nothing, parts_of}
-use Rattle.plural_map_text.specs.Rules.{Breaks, IsInsideAt, is_out_of_place, is_out_of_range, is_misnamed, is_too_many, closed}
-use Rattle.plural_map_text.proofs.Reading.{Reads, IsFine, reads_push}
+use Rattle.plural_map_text.proofs.ReadLines.{Reads, Passes, reads_push}
 
--- ---- texts behind the first two lines
+-- ---- texts after the first two lines
 
--- Behind these lines, the text gives more lines, and all together spell the parts.
-pub record Passed (labels : List (List ℕ)) (before : List TextLine) (number : ℕ) (text rest : List ℕ) (q : Parts) : Type 0 where
+-- After these lines, the text gives more lines, and all together spell the parts.
+pub record Passed (labels : List (List ℕ)) (all before : List TextLine) (number : ℕ) (text rest : List ℕ) (q : Parts) : Type 0 where
   pub lines : List TextLine
   pub next : ℕ
   pub cut : content_from number (pieces (text ++ rest)) ≡ lines ++ content_from next (pieces rest)
-  pub reads : Reads labels (before ++ lines) q
+  pub reads : Reads 1 labels all (before ++ lines) q
 
--- The text leads from parts to parts, whatever two or more lines stand before it and whatever follows.
+-- The text leads from parts to parts, after any two lines or more and whatever follows.
 abbrev pub Leads : List (List ℕ) → Parts → List ℕ → Parts → Type 0
-Leads labels p text q = (number : ℕ) (before : List TextLine) (rest : List ℕ) → 2 ≤ length before → Reads labels before p → Passed labels before number text rest q
+Leads labels p text q =
+    (number : ℕ) (all before : List TextLine) (rest : List ℕ) → 2 ≤ length before → Reads 1 labels all before p → Passed labels all before number text rest q
 
+-- No text leads from parts to themselves.
 pub no_step : (labels : List (List ℕ)) (p : Parts) → Leads labels p [] p
-no_step labels p number before rest low r = record { lines = []; next = number; cut = refl; reads = rw (append-nil before) r }
+no_step labels p number all before rest low r = record { lines = []; next = number; cut = refl; reads = rw (append-nil before) r }
 
+-- Texts in a row lead from parts to parts.
 pub two_steps : (labels : List (List ℕ)) (p q r : Parts) (s t : List ℕ) → Leads labels p s q → Leads labels q t r → Leads labels p (s ++ t) r
-two_steps labels p q r s t f g number before rest low h =
-    let a = f number before (t ++ rest) low h in
-    let b = g a.next (before ++ a.lines) rest (omega (arith, low, length-append before a.lines)) a.reads in
+two_steps labels p q r s t f g number all before rest low h =
+    let a = f number all before (t ++ rest) low h in
+    let b = g a.next all (before ++ a.lines) rest (omega (arith, low, length-append before a.lines)) a.reads in
     record {
       lines = a.lines ++ b.lines;
       next = b.next;
       cut = ap (λ x. content_from number (pieces x)) (append_assoc s t rest) ∙ a.cut ∙ ap (λ x. a.lines ++ x) b.cut ∙ sym (append_assoc a.lines b.lines (content_from b.next (pieces rest)));
-      reads = subst (λ (ls : List TextLine). Reads labels ls r) (append_assoc before a.lines b.lines) b.reads;
+      reads = subst (λ (ls : List TextLine). Reads 1 labels all ls r) (append_assoc before a.lines b.lines) b.reads;
     }
 
 -- One line of tokens.
 pub line_step : (labels : List (List ℕ)) (p : Parts) (s : MapLine) (text t : List ℕ) (ts : List (List ℕ)) → text ≡ joined (t ∷ ts) ++ 10 ∷ [] → list_all is_token (t ∷ ts) ≡ true → shape (t ∷ ts) ≡ Some s
-    → ((n : ℕ) → 2 ≤ n → IsFine labels n p s) → Leads labels p text (with_line p s)
-line_step labels p s text t ts e all spells fine number before rest low r =
+    → ((n : ℕ) → 2 ≤ n → Passes labels n p s) → Leads labels p text (with_line p s)
+line_step labels p s text t ts e tokens spells fine number all before rest low r =
     let whole : text ++ rest ≡ joined (t ∷ ts) ++ 10 ∷ rest = ap (λ x. x ++ rest) e ∙ append_assoc (joined (t ∷ ts)) (10 ∷ []) rest in
-    let shaped : shape_of (joined (t ∷ ts)) ≡ Some s = ap shape (tokens_joined t ts all) ∙ spells in
+    let shaped : shape_of (joined (t ∷ ts)) ≡ Some s = ap shape (tokens_joined t ts tokens) ∙ spells in
     record {
       lines = (number, joined (t ∷ ts)) ∷ [];
       next = number + 1;
-      cut = ap (λ x. content_from number (pieces x)) whole ∙ line_next number t ts rest all;
-      reads = reads_push labels before (number, joined (t ∷ ts)) p s r shaped (fine (length before) low);
+      cut = ap (λ x. content_from number (pieces x)) whole ∙ line_next number t ts rest tokens;
+      reads = reads_push 1 labels all before (number, joined (t ∷ ts)) p s r shaped (fine (length before) low);
     }

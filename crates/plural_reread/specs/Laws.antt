@@ -2,7 +2,6 @@
 use Rattle.std.specs.Prelude.{◌≡◌, ℕ, ◌<◌, ◌≤◌, false, List, length, slice_index_or, IsTrue}
 use Rattle.std.specs.List.{All}
 use Rattle.plural_bytes.specs.Lines.{TextLine, content_lines}
-use Rattle.plural_bytes.specs.Faults.{IsFaultless}
 use Rattle.plural_base.specs.Names.{is_name}
 use Rattle.plural_regions.specs.declared.region.Region.{Region}
 use Rattle.plural_map.specs.declared.outcome.Dep.{Dep}
@@ -10,7 +9,7 @@ use Rattle.plural_map.specs.Value.{TaskValue, MapValue}
 use Rattle.plural_map.specs.Limits.{IsMap}
 use Rattle.plural_map_text.specs.Print.{map_text}
 use Rattle.plural_map_text.specs.Parts.{map_of}
-use Rattle.plural_map_text.specs.Rules.{Breaks, closed, has}
+use Rattle.plural_map_text.specs.Rules.{IsMapText, has}
 
 -- The numbers of a region that a line may spell: base and stride of at most 65,535, a count of at most 65,536.
 pub record IsSpelledRegion (r : Region) : Type 0 where
@@ -27,21 +26,26 @@ pub record IsSpelledTask (number : ℕ) (t : TaskValue) : Type 0 where
   pub earlier : All (λ (d : Dep). d.task < number) t.deps
   pub regions : All IsSpelledRegion t.regions
 
--- A map that version 1 of the format spells: at most 65,536 words, at most 64 tasks, and each task is one that lines may
--- spell.
+-- A map that version 1 of the format spells: at most 65,536 words, at most 64 tasks, and each task is one that lines
+-- may spell.
 pub record IsVersion1 (m : MapValue) : Type 0 where
   pub words : m.words ≤ 65536
   pub few_tasks : length m.tasks ≤ 64
-  pub each : (number : ℕ) (d : TaskValue) → number < length m.tasks → IsSpelledTask number (slice_index_or m.tasks number d)
+  pub each : (number : ℕ) (d : TaskValue) → number < length m.tasks
+      → IsSpelledTask number (slice_index_or m.tasks number d)
+
+-- Each task's entry is one of these labels.
+abbrev pub AreLabelled : List (List ℕ) → List TaskValue → Type 0
+AreLabelled labels tasks = All (λ (t : TaskValue). IsTrue (has labels t.entry)) tasks
 
 -- The content lines of a printed map of version 1 have no fault, for whatever labels that have each task's entry and
 -- whichever line closes them, and spell the map.
-abbrev pub MapAgain : Type 0
-MapAgain = (m : MapValue) (labels : List (List ℕ)) (end : ℕ) → IsMap m → IsVersion1 m → All (λ (t : TaskValue). IsTrue (has labels t.entry)) m.tasks
-    → IsFaultless (Breaks labels) (closed (content_lines (map_text m)) end) × (map_of (content_lines (map_text m)) ≡ m)
+abbrev pub MapRoundTrip : Type 0
+MapRoundTrip = (m : MapValue) (labels : List (List ℕ)) (end : ℕ) → IsMap m → IsVersion1 m → AreLabelled labels m.tasks
+    → IsMapText 1 labels (content_lines (map_text m)) end × (map_of (content_lines (map_text m)) ≡ m)
 
 -- The map that lines without a fault spell is within all limits, one that version 1 spells, and its tasks' entries are
 -- labels.
 abbrev pub MapFits : Type 0
-MapFits = (labels : List (List ℕ)) (lines : List TextLine) (end : ℕ) → IsFaultless (Breaks labels) (closed lines end)
-    → IsMap (map_of lines) × IsVersion1 (map_of lines) × All (λ (t : TaskValue). IsTrue (has labels t.entry)) (map_of lines).tasks
+MapFits = (labels : List (List ℕ)) (lines : List TextLine) (end : ℕ) → IsMapText 1 labels lines end
+    → IsMap (map_of lines) × IsVersion1 (map_of lines) × AreLabelled labels (map_of lines).tasks

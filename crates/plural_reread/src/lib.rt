@@ -1,11 +1,11 @@
 //! Maps that were printed and are read again.
 //!
-//! Promise: the canonical lines that `plural_map_text::print` writes of a map that version 1 of the format spells have no
-//! fault and spell that map (`specs/Laws.antt`, `laws::map_again`), and each map that lines without a fault spell is one
-//! of version 1 (`laws::map_fits`); so a map that `plural_map_text::parse` answers, printed and read again, gives itself, or
+//! Promise: the canonical lines that `plural_map_text::print` writes of a map that version 1 of the format spells have
+//! no fault and spell that map (`specs/Laws.antt`, `laws::map_round_trip`). Each map that lines without a fault spell
+//! is one of version 1 (`laws::map_fits`). So a map that `parse` answers, printed and read again, gives itself, or
 //! memory ran out.
-//! Stands on `plural_map`, whose definitions it speaks of, and on `plural_bytes`, whose lemmas on printed lines it uses
-//! (`proofs/Tokens.antt`). `plural_made` stands on it.
+//! Stands on `plural_map`, whose values it speaks of, on `plural_map_text`, whose lines, and on `plural_bytes`, whose
+//! lemmas on printed lines it uses (`proofs/Tokens.antt`). `plural_made` stands on it.
 #![tactic(auto)]
 
 pub mod laws;

@@ -1,4 +1,4 @@
-use Rattle.plural_reread.proofs.Fits.{map_fits}
+use Rattle.plural_reread.proofs.FaultlessMaps.{map_fits}
 use Rattle.plural_reread.proofs.laws.map_fits.Goals as goal
 
 pub returns : goal.returns

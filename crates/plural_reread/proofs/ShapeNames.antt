@@ -18,9 +18,8 @@ HasNames (line.Cache sets ways) = ⊤
 HasNames (line.Task name kind entry budget) = (is_name name ≡ true) × (is_name entry ≡ true)
 HasNames (line.After name when) = ⊤
 HasNames (line.Region mode base stride count) = ⊤
-HasNames line.End = ⊤
 
--- They are where there is a line.
+-- They are, if there is a line.
 abbrev Holds : Option MapLine → Type 0
 Holds o = MatchOption o ⊤ HasNames
 

@@ -1,4 +1,4 @@
--- One line without a fault after the other keeps the limits, and the map of the whole section has them all.
+-- Lines without a fault spell parts within the limits, and those of a whole section spell a map within them all.
 use Rattle.std.proofs.Common.{◌≡◌, ℕ, ◌+◌, ◌%◌, ◌<◌, ◌≤◌, true, false, Some, None, Option, List, [], length, map, sum, get_or, refl, ap, subst, arith}
 use Rattle.std.specs.Prelude.{◌≢◌, ◌&&◌, ◌||◌, ◌==◌, not, ⊤, MatchOption, bytes_eq, nat_le, nat_lt, unwrap_or, is_none, option_map}
 use Rattle.std.specs.List.{All, AllPairs}
@@ -17,8 +17,9 @@ use Rattle.plural_map.specs.Order.{IsDeclaredInOrder}
 use Rattle.plural_map_text.specs.RegionOf.{region_of}
 use Rattle.plural_map_text.specs.Parts.{Parts, tasks_of, with_line, nothing, whole, quota_of, is_dup}
 use Rattle.plural_map.specs.Lookup.{number_of, has_task}
-use Rattle.plural_map_text.specs.Rules.{has, has_dep, task_count, instance_count, is_between, is_out_of_place, is_out_of_range, is_misnamed, is_too_many, IsInsideAt}
-use Rattle.plural_map_text.proofs.Kept.{IsDeclared, task_from_declared, dep_added, region_added, length_all, quotas_all, names_all, declared_all, new_name_all, number_below}
+use Rattle.plural_map_text.specs.Rules.{has, has_dep, names_current, task_count, instance_count, exceeds_instances, is_between, is_out_of_place, is_out_of_range, is_misnamed, is_too_many}
+use Rattle.plural_map_text.specs.Verdicts.{IsInsideAt}
+use Rattle.plural_map_text.proofs.TaskLimits.{IsDeclared, task_from_declared, dep_added, region_added, length_all, quotas_all, names_all, declared_all, new_name_all, number_below}
 use Rattle.plural_map.proofs.DeclarationOrder.{declared_order, among_range}
 
 -- ---- numbers
@@ -55,6 +56,7 @@ pub record IsKept (n : ℕ) (p : Parts) : Type 0 where
   pub earlier : (i : ℕ) (d : TaskValue) → i < length p.earlier → IsDeclared p.words i (get_or p.earlier i d)
   pub current : MatchOption p.current ⊤ (IsDeclared p.words (length p.earlier))
 
+-- No lines spell no parts, within all limits.
 pub kept_nothing : IsKept 0 nothing
 kept_nothing = record {
   words = λ h. absurd (omega arith);
@@ -231,21 +233,20 @@ kept_region n p mode base stride count k place many inside =
     more None d room i = tt
     more (Some t) d room i = region_added p.words (length p.earlier) t region d i room
 
-kept_end : (n : ℕ) (p : Parts) → IsKept n p → is_out_of_place n p line.End ≡ false → IsKept (n + 1) p
-kept_end n p k place =
-    let low : 2 ≤ n = ltb-false n 2 place in
-    record {
-      words = λ h. k.words (omega arith);
-      shape = λ h. k.shape (omega arith);
-      no_earlier = λ h. absurd (omega arith);
-      no_current = λ h. absurd (omega arith);
-      few = k.few;
-      quotas = k.quotas;
-      names = k.names;
-      new_name = k.new_name;
-      earlier = k.earlier;
-      current = k.current;
-    }
+-- A line without text after two lines or more keeps the limits.
+pub kept_blank : (n : ℕ) (p : Parts) → IsKept n p → 2 ≤ n → IsKept (n + 1) p
+kept_blank n p k low = record {
+  words = λ h. k.words (omega arith);
+  shape = λ h. k.shape (omega arith);
+  no_earlier = λ h. absurd (omega arith);
+  no_current = λ h. absurd (omega arith);
+  few = k.few;
+  quotas = k.quotas;
+  names = k.names;
+  new_name = k.new_name;
+  earlier = k.earlier;
+  current = k.current;
+}
 
 -- One more line without a fault keeps the limits.
 pub kept_more : (labels : List (List ℕ)) (n : ℕ) (p : Parts) (s : MapLine) → IsKept n p → is_out_of_place n p s ≡ false → is_out_of_range s ≡ false → is_misnamed labels p s ≡ false → is_too_many p s ≡ false → IsInsideAt p s
@@ -255,7 +256,6 @@ kept_more labels n p (line.Cache s w) k a b c d i = kept_cache n p s w k a b
 kept_more labels n p (line.Task name tk entry budget) k a b c d i = kept_task labels n p name tk entry budget k a b c d
 kept_more labels n p (line.After name when) k a b c d i = kept_after labels n p name when k a c d
 kept_more labels n p (line.Region mode base stride count) k a b c d i = kept_region n p mode base stride count k a d i
-kept_more labels n p line.End k a b c d i = kept_end n p k a
 
 -- ---- the whole map
 

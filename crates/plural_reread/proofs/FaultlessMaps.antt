@@ -1,6 +1,6 @@
 -- The map that lines without a fault spell is one that lines can be printed of.
 use Rattle.std.proofs.Common.{◌≡◌, ℕ, zero, suc, ◌+◌, ◌*◌, ◌<◌, ◌≤◌, true, false, Some, None, Option, inl, inr, List, [], ◌∷◌, ◌++◌, length, refl, ap, sym, subst, ◌∙◌, arith, append_assoc}
-use Rattle.std.specs.Prelude.{◌&&◌, not, ⊤, MatchOption, option_map, ◌⊎◌}
+use Rattle.std.specs.Prelude.{◌&&◌, nat_lt, not, ⊤, MatchOption, option_map, ◌⊎◌}
 use Rattle.std.specs.List.{All}
 use Rattle.std.specs.Option.{option_map_or, option_to_list}
 use Rattle.std.proofs.lemmas.Bool.{false_from_ne_true, not-false, and_parts, or_parts, ltb-false, cases_lt}
@@ -24,15 +24,17 @@ use Rattle.plural_map_text.specs.RegionOf.{region_of}
 use Rattle.plural_map_text.specs.Shape.{shape_of}
 use Rattle.plural_map_text.specs.Parts.{Parts, with_line, with_text, nothing, parts_of, whole}
 use Rattle.plural_map.specs.Lookup.{number_of}
-use Rattle.plural_map_text.specs.Rules.{Breaks, HasKind, IsInsideAt, IsOutsideAt, is_between, is_out_of_place, is_out_of_range, is_misnamed, is_too_many, has, closed}
-use Rattle.plural_map_text.proofs.Kept.{length_all, declared_all}
-use Rattle.plural_map_text.proofs.Keeps.{IsKept, between, kept_nothing, kept_more, kept_map}
+use Rattle.plural_map_text.specs.Rules.{Breaks, HasKind, ClosesEarly, IsOutsideAt, is_between, is_out_of_place, is_out_of_range, is_misnamed, is_too_many, has}
+use Rattle.plural_map_text.specs.Verdicts.{IsInsideAt}
+use Rattle.plural_bytes.proofs.Faulted.{last_none}
+use Rattle.plural_map_text.proofs.TaskLimits.{length_all, declared_all}
+use Rattle.plural_map_text.proofs.MapLimits.{IsKept, between, kept_nothing, kept_blank, kept_more, kept_map}
 use Rattle.plural_reread.specs.Laws.{IsSpelledRegion, IsVersion1, MapFits}
-use Rattle.plural_reread.proofs.Named.{HasNames, line_named}
+use Rattle.plural_reread.proofs.ShapeNames.{HasNames, line_named}
 
 -- ---- regions
 
--- Where no instance is the least outside, all lie inside.
+-- If no instance is the least outside, all lie inside.
 none_up_to : (r : Region) (q w n : ℕ) → ((k : ℕ) → IsLeastOutside r q w k → ⊥) → n ≤ q → AllInside r n w
 none_up_to r q w zero none h k l = absurd (omega arith)
 none_up_to r q w (suc n) none h k l = by_last (none_up_to r q w n none (omega arith)) (cases_lt k n)
@@ -50,7 +52,6 @@ inside_from p (line.Memory words) none = tt
 inside_from p (line.Cache sets ways) none = tt
 inside_from p (line.Task name kind entry budget) none = tt
 inside_from p (line.After name when) none = tt
-inside_from p line.End none = tt
 inside_from p (line.Region mode base stride count) none = by_task p.current none
   where
     by_task : (t : Option TaskValue) → ((k : ℕ) → IsOutsideAt (record p { current = t }) (line.Region mode base stride count) k → ⊥) → IsInsideAt (record p { current = t }) (line.Region mode base stride count)
@@ -113,14 +114,27 @@ fit_more labels n p (line.Region mode base stride count) f h r m k = record {
   earlier = f.earlier;
   current = region_written labels (region_of mode base stride count) p.current (region_spelled mode base stride count r) f.current;
 }
-fit_more labels n p line.End f h r m k = record { kept = k; earlier = f.earlier; current = f.current }
 
 -- ---- all lines
 
-line_fit : (labels : List (List ℕ)) (before : List TextLine) (l : TextLine) → IsFit labels (length before) (parts_of before) → ((k : MapKind) → Breaks labels before l.1 k → ⊥)
+-- A line without text after two or more changes nothing.
+blank_fit : (labels : List (List ℕ)) (n : ℕ) (p : Parts) → IsFit labels n p → 2 ≤ n → IsFit labels (n + 1) p
+blank_fit labels n p f low = record { kept = kept_blank n p f.kept low; earlier = f.earlier; current = f.current }
+
+-- If the line that closes a section has no fault after n lines, these are two or more.
+not_early : (n : ℕ) → ((k : MapKind) → ClosesEarly n k → ⊥) → 2 ≤ n
+not_early n none = ltb-false n 2 (false_from_ne_true (nat_lt n 2) (λ h. none kinds.Form (refl, h)))
+
+line_fit : (labels : List (List ℕ)) (all before : List TextLine) (l : TextLine) → IsFit labels (length before) (parts_of before) → ((k : MapKind) → Breaks 1 labels all before l.1 k → ⊥)
     → IsFit labels (length (before ++ l ∷ [])) (parts_of (before ++ l ∷ []))
-line_fit labels before l f none = by_shape (shape_of l.1) refl
+line_fit labels all before (number, []) f none =
+    let next : parts_of (before ++ (number, []) ∷ []) ≡ parts_of before = fold_push with_text nothing before (number, []) in
+    rw (length_push before (number, []), next) (blank_fit labels (length before) (parts_of before) f (not_early (length before) none))
+line_fit labels all before (number, c ∷ cs) f none = by_shape (shape_of (c ∷ cs)) refl
   where
+    l : TextLine
+    l = (number, c ∷ cs)
+
     by_shape : (o : Option MapLine) → shape_of l.1 ≡ o → IsFit labels (length (before ++ l ∷ [])) (parts_of (before ++ l ∷ []))
     by_shape None e = absurd (none kinds.Form (rw e refl))
     by_shape (Some s) e =
@@ -135,13 +149,13 @@ line_fit labels before l f none = by_shape (shape_of l.1) refl
         let next : parts_of (before ++ l ∷ []) ≡ with_line p s = fold_push with_text nothing before l ∙ ap (λ o. option_map_or (with_line p) o p) e in
         rw (length_push before l, next) (fit_more labels (length before) p s f (line_named l.1 s e) range names kept)
 
-lines_fit : (labels : List (List ℕ)) (before rest : List TextLine) → IsFit labels (length before) (parts_of before) → IsFaultless (Breaks labels) (before ++ rest)
+lines_fit : (labels : List (List ℕ)) (every before rest : List TextLine) → IsFit labels (length before) (parts_of before) → IsFaultless (Breaks 1 labels every) (before ++ rest)
     → IsFit labels (length (before ++ rest)) (parts_of (before ++ rest))
-lines_fit labels before [] f h = subst (λ (ls : List TextLine). IsFit labels (length ls) (parts_of ls)) (sym (append-nil before)) f
-lines_fit labels before (l ∷ rest) f h =
-    let one = line_fit labels before l f (λ k b. h.none l.0 k (record { before = before; text = l.1; after = rest; whole = refl; breaks = b })) in
+lines_fit labels every before [] f h = subst (λ (ls : List TextLine). IsFit labels (length ls) (parts_of ls)) (sym (append-nil before)) f
+lines_fit labels every before (l ∷ rest) f h =
+    let one = line_fit labels every before l f (λ k b. h.none l.0 k (record { before = before; text = l.1; after = rest; whole = refl; breaks = b })) in
     let moved = append_assoc before (l ∷ []) rest in
-    let all = lines_fit labels (before ++ l ∷ []) rest one (subst (λ (ls : List TextLine). IsFaultless (Breaks labels) ls) (sym moved) h) in
+    let all = lines_fit labels every (before ++ l ∷ []) rest one (subst (λ (ls : List TextLine). IsFaultless (Breaks 1 labels every) ls) (sym moved) h) in
     subst (λ (ls : List TextLine). IsFit labels (length ls) (parts_of ls)) moved all
 
 whole_fits : (labels : List (List ℕ)) (n : ℕ) (p : Parts) → IsFit labels n p → 2 ≤ n → IsVersion1 (whole p)
@@ -159,13 +173,10 @@ whole_fits labels n p f low =
       };
     }
 
+-- The map of lines without a fault is within all limits, one of version 1, and its entries are labels.
 pub map_fits : MapFits
 map_fits labels lines end h =
-    let all = lines_fit labels [] (closed lines end) (fit_nothing labels) h in
-    let same : parts_of (closed lines end) ≡ parts_of lines = fold_push with_text nothing lines (end, []) in
-    let fit : IsFit labels (length (closed lines end)) (parts_of lines) = rw same at all in
-    let low : 2 ≤ length lines =
-    ltb-false (length lines) 2 (false_from_ne_true _ (λ (b : is_out_of_place (length lines) (parts_of lines) line.End ≡ true). h.none end kinds.Form (record { before = lines; text = []; after = []; whole = refl; breaks = b }))) in
-    let many : 2 ≤ length (closed lines end) = omega (arith, low, length_push lines (end, [])) in
+    let closing : 2 ≤ length lines = not_early (length lines) (λ k b. h.none end k (record { before = lines; text = []; after = []; whole = refl; breaks = b })) in
+    let fit = lines_fit labels lines [] lines (fit_nothing labels) (last_none (Breaks 1 labels lines) lines (end, []) h).0 in
     let written = all_written labels (parts_of lines).earlier (parts_of lines).current fit.earlier fit.current in
-    (kept_map (length (closed lines end)) (parts_of lines) fit.kept many, whole_fits labels (length (closed lines end)) (parts_of lines) fit many, λ i d l. (written i d l).known)
+    (kept_map (length lines) (parts_of lines) fit.kept closing, whole_fits labels (length lines) (parts_of lines) fit closing, λ i d l. (written i d l).known)

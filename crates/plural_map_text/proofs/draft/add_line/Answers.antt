@@ -1,4 +1,4 @@
-use Rattle.plural_map_text.proofs.draft.add.Goals as goal
+use Rattle.plural_map_text.proofs.draft.add_line.Goals as goal
 
 pub returns-in-After : goal.returns-in-After
 returns-in-After c =

@@ -7,7 +7,6 @@ use Rattle.std.proofs.lemmas.Bool.{le-leb, lt-leb, le-ltb}
 use Rattle.std.proofs.lemmas.List.{append-nil, length-append, get_or_at, get_or_append_left}
 use Rattle.std.proofs.lemmas.List.Folds.{list_any_at}
 use Rattle.plural_bytes.specs.Lines.{TextLine, pieces, content_from, content_lines}
-use Rattle.plural_bytes.specs.Faults.{IsFaultless}
 use Rattle.plural_base.specs.Names.{is_name}
 use Rattle.plural_bytes.proofs.Tokens.{is_token, joined, tokens_joined, line_next}
 use Rattle.plural_regions.specs.declared.region.Region.{Region}
@@ -23,26 +22,26 @@ use Rattle.plural_map_text.specs.Shape.{shape, shape_of}
 use Rattle.plural_map_text.specs.Parts.{Parts, nothing, with_line, whole, map_of, quota_of}
 use Rattle.plural_map.specs.Lookup.{number_of, name_at, has_task}
 use Rattle.plural_map_text.specs.Print.{line_text, when_text, mode_text, task_line, dep_text, join_text, region_text, task_text, map_text}
-use Rattle.plural_map_text.specs.Rules.{Breaks, closed, has, has_dep, task_count, instance_count}
-use Rattle.plural_map_text.proofs.Kept.{length_all, quotas_all}
-use Rattle.plural_map_text.proofs.Reading.{Reads, IsFine, reads_nothing, reads_push, closed_faultless}
+use Rattle.plural_map_text.specs.Rules.{IsMapText, has, has_dep, task_count, instance_count}
+use Rattle.plural_map_text.proofs.TaskLimits.{length_all, quotas_all}
+use Rattle.plural_map_text.proofs.ReadLines.{Reads, Passes, reads_nothing, reads_push, closed_faultless}
 use Rattle.plural_map.proofs.Lookups.{Differ, AreNamed, name_before, has_at, number_at, named_at}
-use Rattle.plural_reread.specs.Laws.{IsSpelledRegion, IsSpelledTask, IsVersion1, MapAgain}
+use Rattle.plural_reread.specs.Laws.{IsSpelledRegion, IsSpelledTask, IsVersion1, MapRoundTrip}
 use Rattle.plural_reread.proofs.Steps.{Leads, no_step, two_steps, line_step}
 use Rattle.plural_reread.proofs.Shapes.{line_joined, memory_all, memory_shape, cache_all, cache_shape, sets_small, kind_of, dup_back, quota_back, task_tokens, task_joined, task_all, task_shape, after_all, after_shape, region_all, region_shape}
-use Rattle.plural_reread.proofs.Found.{pairs_before, new_name, name_apart, new_dep, quotas_below, region_back}
+use Rattle.plural_reread.proofs.Lookups.{pairs_before, new_name, name_apart, new_dep, quotas_below, region_back}
 
 -- ---- a task of the map
 
--- The parts behind some tasks.
-abbrev behind : MapValue → List TaskValue → Option TaskValue → Parts
-behind m earlier current = record { words = m.words; sets = m.sets; ways = m.ways; earlier = earlier; current = current }
+-- The parts after some tasks.
+abbrev after_tasks : MapValue → List TaskValue → Option TaskValue → Parts
+after_tasks m earlier current = record { words = m.words; sets = m.sets; ways = m.ways; earlier = earlier; current = current }
 
 -- The parts inside a task, with some of its dependencies and regions.
 abbrev during : MapValue → List TaskValue → TaskValue → List Dep → List Region → Parts
-during m pre t deps regions = behind m pre (Some (record t { deps = deps; regions = regions }))
+during m pre t deps regions = after_tasks m pre (Some (record t { deps = deps; regions = regions }))
 
--- What holds of the task behind some.
+-- What holds of the task after some.
 record IsNext (m : MapValue) (labels : List (List ℕ)) (pre : List TaskValue) (t : TaskValue) : Type 0 where
   pub task : IsTask m.words m.tasks t
   pub spelled : IsSpelledTask (length pre) t
@@ -79,26 +78,26 @@ next_is m labels pre t ts limits small entries e =
 -- ---- its own line
 
 task_fine : (m : MapValue) (labels : List (List ℕ)) (earlier : List TaskValue) (current : Option TaskValue) (t : TaskValue) (n : ℕ) → IsNext m labels (earlier ++ option_to_list current) t → 2 ≤ n
-    → IsFine labels n (behind m earlier current) (line.Task t.name (kind_of t.dup t.quota) t.entry (Some t.budget))
+    → Passes labels n (after_tasks m earlier current) (line.Task t.name (kind_of t.dup t.quota) t.entry (Some t.budget))
 task_fine m labels earlier current t n h low =
     let quota = quota_back t.dup t.quota h.task.regular in
     let a = h.task.quota_low in
     let b = h.task.quota_high in
     let c = h.task.budget_low in
     let d = h.task.budget_high in
-    let few : task_count (behind m earlier current) < 64 = omega (arith, h.room, length_all earlier current) in
-    let sums : instance_count (behind m earlier current) + t.quota ≤ 65536 = omega (arith, h.instances, quotas_all earlier current) in
+    let few : task_count (after_tasks m earlier current) < 64 = omega (arith, h.room, length_all earlier current) in
+    let sums : instance_count (after_tasks m earlier current) + t.quota ≤ 65536 = omega (arith, h.instances, quotas_all earlier current) in
     record {
       place = le-ltb n 2 low;
       range = rw (quota, le-leb 1 t.quota a, le-leb t.quota 16384 b, le-leb 1 t.budget c, le-leb t.budget 100000000 d) refl;
       names = rw (name_apart earlier current t.name h.new, h.labelled) refl;
-      counts = rw (quota, lt-leb 64 (task_count (behind m earlier current)) few, le-ltb 65536 (instance_count (behind m earlier current) + t.quota) sums) refl;
+      counts = rw (quota, lt-leb 64 (task_count (after_tasks m earlier current)) few, le-ltb 65536 (instance_count (after_tasks m earlier current) + t.quota) sums) refl;
       inside = tt;
     }
 
--- The parts behind the line of a task.
+-- The parts after the line of a task.
 opened : (m : MapValue) (earlier : List TaskValue) (current : Option TaskValue) (t : TaskValue) → (t.dup ≡ false → t.quota ≡ 1) → t.some ≡ false
-    → with_line (behind m earlier current) (line.Task t.name (kind_of t.dup t.quota) t.entry (Some t.budget)) ≡ during m (earlier ++ option_to_list current) t [] []
+    → with_line (after_tasks m earlier current) (line.Task t.name (kind_of t.dup t.quota) t.entry (Some t.budget)) ≡ during m (earlier ++ option_to_list current) t [] []
 opened m earlier current t regular every =
     let quota : unwrap_or (quota_of (kind_of t.dup t.quota)) 0 ≡ t.quota = ap (λ o. unwrap_or o 0) (quota_back t.dup t.quota regular) in
     λ i. record {
@@ -110,16 +109,16 @@ opened m earlier current t regular every =
     }
 
 task_step : (m : MapValue) (labels : List (List ℕ)) (earlier : List TaskValue) (current : Option TaskValue) (t : TaskValue) → IsNext m labels (earlier ++ option_to_list current) t
-    → Leads labels (behind m earlier current) (task_line t) (during m (earlier ++ option_to_list current) t [] [])
+    → Leads labels (after_tasks m earlier current) (task_line t) (during m (earlier ++ option_to_list current) t [] [])
 task_step m labels earlier current t h =
     let a = h.task.quota_high in
     let b = h.task.budget_high in
     let name = h.spelled.name in
     let entry = h.spelled.entry in
-    let step = line_step labels (behind m earlier current) (line.Task t.name (kind_of t.dup t.quota) t.entry (Some t.budget)) (task_line t) (codes "task") (task_tokens t.dup t.quota t.name t.entry t.budget) (task_joined t)
+    let step = line_step labels (after_tasks m earlier current) (line.Task t.name (kind_of t.dup t.quota) t.entry (Some t.budget)) (task_line t) (codes "task") (task_tokens t.dup t.quota t.name t.entry t.budget) (task_joined t)
     (task_all t.dup t.quota t.name t.entry t.budget (omega arith) name entry (omega arith)) (task_shape t.dup t.quota t.name t.entry t.budget (omega arith) name entry (omega arith))
     (λ n low. task_fine m labels earlier current t n h low) in
-    subst (λ (q : Parts). Leads labels (behind m earlier current) (task_line t) q) (opened m earlier current t h.task.regular h.spelled.every) step
+    subst (λ (q : Parts). Leads labels (after_tasks m earlier current) (task_line t) q) (opened m earlier current t h.task.regular h.spelled.every) step
 
 -- ---- its dependencies
 
@@ -188,30 +187,30 @@ regions_steps m labels pre t done (r ∷ rs) h e =
 -- ---- the whole task, and all tasks
 
 whole_task : (m : MapValue) (labels : List (List ℕ)) (earlier : List TaskValue) (current : Option TaskValue) (t : TaskValue) → IsNext m labels (earlier ++ option_to_list current) t
-    → Leads labels (behind m earlier current) (task_text m.tasks t) (behind m (earlier ++ option_to_list current) (Some t))
+    → Leads labels (after_tasks m earlier current) (task_text m.tasks t) (after_tasks m (earlier ++ option_to_list current) (Some t))
 whole_task m labels earlier current t h =
     let pre = earlier ++ option_to_list current in
     let regions = flat_map region_text t.regions in
     let deps = flat_map (dep_text m.tasks) t.deps in
     let bare : join_text t.some ++ regions ≡ regions = ap (λ b. join_text b ++ regions) h.spelled.every in
-    let back = two_steps labels (during m pre t [] []) (during m pre t t.deps []) (behind m pre (Some t)) deps regions (deps_steps m labels pre t [] t.deps h refl) (regions_steps m labels pre t [] t.regions h refl) in
-    let all = two_steps labels (behind m earlier current) (during m pre t [] []) (behind m pre (Some t)) (task_line t) (deps ++ regions) (task_step m labels earlier current t h) back in
-    subst (λ (x : List ℕ). Leads labels (behind m earlier current) (task_line t ++ (deps ++ x)) (behind m pre (Some t))) (sym bare) all
+    let back = two_steps labels (during m pre t [] []) (during m pre t t.deps []) (after_tasks m pre (Some t)) deps regions (deps_steps m labels pre t [] t.deps h refl) (regions_steps m labels pre t [] t.regions h refl) in
+    let all = two_steps labels (after_tasks m earlier current) (during m pre t [] []) (after_tasks m pre (Some t)) (task_line t) (deps ++ regions) (task_step m labels earlier current t h) back in
+    subst (λ (x : List ℕ). Leads labels (after_tasks m earlier current) (task_line t ++ (deps ++ x)) (after_tasks m pre (Some t))) (sym bare) all
 
 -- A text leads from the parts to the tasks of the map.
 record Ends (m : MapValue) (labels : List (List ℕ)) (p : Parts) (text : List ℕ) : Type 0 where
   pub earlier : List TaskValue
   pub current : Option TaskValue
   pub all : m.tasks ≡ earlier ++ option_to_list current
-  pub leads : Leads labels p text (behind m earlier current)
+  pub leads : Leads labels p text (after_tasks m earlier current)
 
 tasks_steps : (m : MapValue) (labels : List (List ℕ)) (earlier : List TaskValue) (current : Option TaskValue) (ts : List TaskValue) → IsMap m → IsVersion1 m → All (λ (t : TaskValue). IsTrue (has labels t.entry)) m.tasks
-    → m.tasks ≡ (earlier ++ option_to_list current) ++ ts → Ends m labels (behind m earlier current) (flat_map (task_text m.tasks) ts)
+    → m.tasks ≡ (earlier ++ option_to_list current) ++ ts → Ends m labels (after_tasks m earlier current) (flat_map (task_text m.tasks) ts)
 tasks_steps m labels earlier current [] limits small entries e = record {
   earlier = earlier;
   current = current;
   all = e ∙ append-nil (earlier ++ option_to_list current);
-  leads = no_step labels (behind m earlier current);
+  leads = no_step labels (after_tasks m earlier current);
 }
 tasks_steps m labels earlier current (t ∷ ts) limits small entries e =
     let pre = earlier ++ option_to_list current in
@@ -221,27 +220,27 @@ tasks_steps m labels earlier current (t ∷ ts) limits small entries e =
       earlier = more.earlier;
       current = more.current;
       all = more.all;
-      leads = two_steps labels (behind m earlier current) (behind m pre (Some t)) (behind m more.earlier more.current) (task_text m.tasks t) (flat_map (task_text m.tasks) ts) one more.leads;
+      leads = two_steps labels (after_tasks m earlier current) (after_tasks m pre (Some t)) (after_tasks m more.earlier more.current) (task_text m.tasks t) (flat_map (task_text m.tasks) ts) one more.leads;
     }
 
 -- ---- the first two lines, and the whole map
 
-first_fine : (labels : List (List ℕ)) (words : ℕ) → 8 ≤ words → words ≤ 65536 → words % 8 ≡ 0 → IsFine labels 0 nothing (line.Memory (Some words))
+first_fine : (labels : List (List ℕ)) (words : ℕ) → 8 ≤ words → words ≤ 65536 → words % 8 ≡ 0 → Passes labels 0 nothing (line.Memory (Some words))
 first_fine labels words low high even = record { place = refl; range = rw (le-leb 8 words low, le-leb words 65536 high, even) refl; names = refl; counts = refl; inside = tt }
 
-second_fine : (m : MapValue) (labels : List (List ℕ)) (p : Parts) → IsMap m → IsFine labels 1 p (line.Cache (Some m.sets) (Some m.ways))
+second_fine : (m : MapValue) (labels : List (List ℕ)) (p : Parts) → IsMap m → Passes labels 1 p (line.Cache (Some m.sets) (Some m.ways))
 second_fine m labels p limits = record { place = refl; range = rw (limits.sets, le-leb 1 m.ways limits.ways_low, le-leb m.ways 4 limits.ways_high) refl; names = refl; counts = refl; inside = tt }
 
--- The map of the parts behind all its tasks.
-whole_is : (m : MapValue) (earlier : List TaskValue) (current : Option TaskValue) → IsMap m → m.tasks ≡ earlier ++ option_to_list current → whole (behind m earlier current) ≡ m
+-- The map of the parts after all its tasks.
+whole_is : (m : MapValue) (earlier : List TaskValue) (current : Option TaskValue) → IsMap m → m.tasks ≡ earlier ++ option_to_list current → whole (after_tasks m earlier current) ≡ m
 whole_is m earlier current limits e =
     let order = sym (limits.ordered ∙ ap order_of e) in
     λ i. record { words = m.words; sets = m.sets; ways = m.ways; tasks = sym e i; order = order i }
 
--- Lines that spell the parts behind all tasks of the map spell the map.
-ends_again : (m : MapValue) (labels : List (List ℕ)) (end : ℕ) (lines : List TextLine) (earlier : List TaskValue) (current : Option TaskValue) → IsMap m → m.tasks ≡ earlier ++ option_to_list current → 2 ≤ length lines
-    → Reads labels lines (behind m earlier current) → IsFaultless (Breaks labels) (closed lines end) × (map_of lines ≡ m)
-ends_again m labels end lines earlier current limits e low r = (closed_faultless labels lines end r.faultless low, ap whole (sym r.value) ∙ whole_is m earlier current limits e)
+-- Lines that spell the parts after all tasks of the map spell the map.
+ends_round_trip : (m : MapValue) (labels : List (List ℕ)) (end : ℕ) (lines : List TextLine) (earlier : List TaskValue) (current : Option TaskValue) → IsMap m → m.tasks ≡ earlier ++ option_to_list current → 2 ≤ length lines
+    → Reads 1 labels lines lines (after_tasks m earlier current) → IsMapText 1 labels lines end × (map_of lines ≡ m)
+ends_round_trip m labels end lines earlier current limits e low r = (closed_faultless 1 labels lines lines end r.faultless low, ap whole (sym r.value) ∙ whole_is m earlier current limits e)
 
 shaped : (t : List ℕ) (ts : List (List ℕ)) → list_all is_token (t ∷ ts) ≡ true → shape_of (joined (t ∷ ts)) ≡ shape (t ∷ ts)
 shaped t ts h = ap shape (tokens_joined t ts h)
@@ -250,14 +249,14 @@ shaped t ts h = ap shape (tokens_joined t ts h)
 abbrev two_lines : MapValue → List TextLine
 two_lines m = (1, joined (codes "memory" ∷ decimal m.words ∷ [])) ∷ (2, joined (codes "cache" ∷ decimal m.sets ∷ decimal m.ways ∷ [])) ∷ []
 
-two_read : (m : MapValue) (labels : List (List ℕ)) → IsMap m → m.words ≤ 65536 → m.words < 4294967296 → m.ways < 4294967296 → Reads labels (two_lines m) (behind m [] None)
-two_read m labels limits high words ways =
+two_read : (m : MapValue) (labels : List (List ℕ)) (all : List TextLine) → IsMap m → m.words ≤ 65536 → m.words < 4294967296 → m.ways < 4294967296 → Reads 1 labels all (two_lines m) (after_tasks m [] None)
+two_read m labels all limits high words ways =
     let sets = sets_small m.sets limits.sets in
     let memory = joined (codes "memory" ∷ decimal m.words ∷ []) in
     let cache = joined (codes "cache" ∷ decimal m.sets ∷ decimal m.ways ∷ []) in
-    let first = reads_push labels [] (1, memory) nothing (line.Memory (Some m.words)) (reads_nothing labels) (shaped (codes "memory") (decimal m.words ∷ []) (memory_all m.words words) ∙ memory_shape m.words words)
+    let first = reads_push 1 labels all [] (1, memory) nothing (line.Memory (Some m.words)) (reads_nothing 1 labels all) (shaped (codes "memory") (decimal m.words ∷ []) (memory_all m.words words) ∙ memory_shape m.words words)
     (first_fine labels m.words limits.words_low high limits.words_whole) in
-    reads_push labels ((1, memory) ∷ []) (2, cache) (with_line nothing (line.Memory (Some m.words))) (line.Cache (Some m.sets) (Some m.ways)) first
+    reads_push 1 labels all ((1, memory) ∷ []) (2, cache) (with_line nothing (line.Memory (Some m.words))) (line.Cache (Some m.sets) (Some m.ways)) first
     (shaped (codes "cache") (decimal m.sets ∷ decimal m.ways ∷ []) (cache_all m.sets m.ways sets ways) ∙ cache_shape m.sets m.ways sets ways) (second_fine m labels (with_line nothing (line.Memory (Some m.words))) limits)
 
 map_joined : (m : MapValue) (tasks : List ℕ) → line_text (codes "memory" ∷ decimal m.words ∷ []) ++ (line_text (codes "cache" ∷ decimal m.sets ∷ decimal m.ways ∷ []) ++ tasks)
@@ -273,14 +272,16 @@ two_cut m tasks limits words ways =
     ap (λ x. content_from 1 (pieces x)) (map_joined m tasks) ∙ first ∙ ap (λ x. (1, joined (codes "memory" ∷ decimal m.words ∷ [])) ∷ x) second
 
 -- Reading a printed map gives the map.
-pub map_again : MapAgain
-map_again m labels end limits small entries =
+pub map_round_trip : MapRoundTrip
+map_round_trip m labels end limits small entries =
     let high = small.words in
     let most = limits.ways_high in
     let words : m.words < 4294967296 = omega arith in
     let ways : m.ways < 4294967296 = omega arith in
     let tasks = flat_map (task_text m.tasks) m.tasks in
     let ends = tasks_steps m labels [] None m.tasks limits small entries refl in
-    let passed = ends.leads 3 (two_lines m) [] (omega arith) (two_read m labels limits high words ways) in
-    let lines : content_lines (map_text m) ≡ two_lines m ++ passed.lines = two_cut m tasks limits words ways ∙ ap (λ x. two_lines m ++ x) (passed.cut ∙ append-nil passed.lines) in
-    rw lines (ends_again m labels end (two_lines m ++ passed.lines) ends.earlier ends.current limits ends.all (omega (arith, length-append (two_lines m) passed.lines)) passed.reads)
+    let all = content_lines (map_text m) in
+    let passed = ends.leads 3 all (two_lines m) [] (omega arith) (two_read m labels all limits high words ways) in
+    let lines : all ≡ two_lines m ++ passed.lines = two_cut m tasks limits words ways ∙ ap (λ x. two_lines m ++ x) (passed.cut ∙ append-nil passed.lines) in
+    let low : 2 ≤ length all = rw lines (omega (arith, length-append (two_lines m) passed.lines)) in
+    ends_round_trip m labels end all ends.earlier ends.current limits ends.all low (subst (λ (ls : List TextLine). Reads 1 labels all ls (after_tasks m ends.earlier ends.current)) (sym lines) passed.reads)

@@ -1,4 +1,4 @@
--- What lines without a fault keep: all limits of the map so far.
+-- The limits of a task of the map so far, and of all its tasks and one more.
 use Rattle.std.proofs.Common.{◌≡◌, ℕ, suc, ◌+◌, ◌<◌, ◌≤◌, Bool, true, false, Some, None, Option, List, [], ◌∷◌, ◌++◌, length, map, sum, get_or, refl, ap, sym, subst, ◌∙◌, ⊎_elim, arith}
 use Rattle.std.specs.Prelude.{◌≢◌, ◌||◌, ◌==◌, ⊤, MatchOption, bytes_eq, nat_le}
 use Rattle.std.specs.List.{All, AllPairs, list_any}
@@ -25,8 +25,8 @@ use Rattle.plural_map_text.specs.Rules.{has_dep}
 
 -- ---- tests
 
--- Where a test passes at no element, it fails at each.
-pub none_from_any : {X : Type 0} (p : X → Bool) (xs : List X) → list_any p xs ≡ false → All (λ x. p x ≡ false) xs
+-- If a test passes at no element, it fails at each.
+none_from_any : {X : Type 0} (p : X → Bool) (xs : List X) → list_any p xs ≡ false → All (λ x. p x ≡ false) xs
 none_from_any {X = X} p xs e = λ k d h. by_test k d h (p (get_or xs k d)) refl
   where
     by_test : (k : ℕ) (d : X) → k < length xs → (b : Bool) → p (get_or xs k d) ≡ b → p (get_or xs k d) ≡ false
@@ -37,7 +37,7 @@ none_from_any {X = X} p xs e = λ k d h. by_test k d h (p (get_or xs k d)) refl
 texts_differ : (a b : List ℕ) → bytes_eq a b ≡ false → a ≢ b
 texts_differ a b e = not_from_Decides (bytes_eq a b) (bytes_eq-Decides a b) e
 
--- Where a task has the name, its number is below the count.
+-- If a task has the name, its number is below the count.
 pub number_below : (name : List ℕ) (ts : List TaskValue) → has_task ts name ≡ true → number_of name ts < length ts
 number_below name [] e = absurd cc
 number_below name (t ∷ ts) e = by_first (bytes_eq t.name name) refl (number_below name ts)
@@ -120,10 +120,12 @@ region_added words i t r d inside room = record {
 
 -- ---- tasks, and one more
 
+-- All tasks are those before the current one, and the current one.
 pub length_all : (ts : List TaskValue) (o : Option TaskValue) → length (ts ++ option_to_list o) ≡ length ts + option_map_or (λ t. 1) o 0
 length_all ts None = length-append ts []
 length_all ts (Some t) = length-append ts (t ∷ [])
 
+-- Their instances are those of the tasks before the current one, and of the current one.
 pub quotas_all : (ts : List TaskValue) (o : Option TaskValue) → sum (map (λ t. t.quota) (ts ++ option_to_list o)) ≡ sum (map (λ t. t.quota) ts) + option_map_or (λ t. t.quota) o 0
 quotas_all ts None = ap (λ xs. sum (map (λ (t : TaskValue). t.quota) xs)) (append-nil ts) ∙ omega arith
 quotas_all ts (Some t) =
@@ -133,10 +135,12 @@ quotas_all ts (Some t) =
     let g = sum-map q ts in
     omega (arith, e, f, g)
 
+-- Their names differ, if the current one has a new name.
 pub names_all : (ts : List TaskValue) (o : Option TaskValue) → AllPairs (λ t u. t.name ≢ u.name) ts → MatchOption o ⊤ (λ t. All (λ e. e.name ≢ t.name) ts) → AllPairs (λ t u. t.name ≢ u.name) (ts ++ option_to_list o)
 names_all ts None n new = rw (append-nil ts) n
 names_all ts (Some t) n new = all_pairs_push (λ (t u : TaskValue). t.name ≢ u.name) ts t n new
 
+-- Each is within the limits of its place, if the current one is.
 pub declared_all : (words : ℕ) (ts : List TaskValue) (o : Option TaskValue) → ((i : ℕ) (d : TaskValue) → i < length ts → IsDeclared words i (get_or ts i d)) → MatchOption o ⊤ (IsDeclared words (length ts))
     → (i : ℕ) (d : TaskValue) → i < length (ts ++ option_to_list o) → IsDeclared words i (get_or (ts ++ option_to_list o) i d)
 declared_all words ts None each new i d h = let l : i < length ts = omega (arith, length_all ts None) in rw (append-nil ts) (each i d l)
@@ -150,6 +154,7 @@ declared_all words ts (Some t) each new i d h = ⊎_elim earlier last (cases_lt 
         let e : length ts ≡ i = omega (arith, length_push ts t) in
         rw (get_or_at ts t [] d i e) (subst (λ (n : ℕ). IsDeclared words n t) e new)
 
+-- A name that neither a task before the current one nor the current one has is new among all.
 pub new_name_all : (name : List ℕ) (ts : List TaskValue) (o : Option TaskValue) → has_task ts name ≡ false → option_map_or (λ t. bytes_eq t.name name) o false ≡ false → All (λ e. e.name ≢ name) (ts ++ option_to_list o)
 new_name_all name ts o h f = by_current o f
   where

@@ -1,0 +1,5 @@
+use Rattle.plural_reread.proofs.RoundTrip.{map_round_trip}
+use Rattle.plural_reread.proofs.laws.map_round_trip.Goals as goal
+
+pub returns : goal.returns
+returns c = map_round_trip
