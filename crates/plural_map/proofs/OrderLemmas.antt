@@ -1,19 +1,16 @@
 -- The order of the tasks: each number in it was ready among those before it.
 use Rattle.std.proofs.Common.{◌≡◌, ℕ, zero, suc, ◌<◌, ◌≤◌, true, false, Some, None, Option, List, [], ◌∷◌, ◌++◌, length, get_or, take, refl, ap, ◌∙◌, subst, ⊎_elim, arith}
-use Rattle.std.specs.Prelude.{◌||◌, ◌==◌, slice_get, not, slice_index, is_some}
+use Rattle.std.specs.Prelude.{◌||◌, ◌==◌, slice_get, not, slice_index}
 use Rattle.std.specs.List.{range_with_len}
 use Rattle.std.specs.Option.{option_map_or}
 use Rattle.std.proofs.lemmas.List.{length_push, get_or_at, get_or_append_left, take-append-le, take_at}
-use Rattle.std.proofs.lemmas.Option.{slice_get_within, get_or_from_slice_get}
+use Rattle.std.proofs.lemmas.Option.{slice_get_within}
 use Rattle.std.proofs.Math.Bool.{or-false}
 use Rattle.std.proofs.lemmas.Bool.{cases_lt, eq-eqb, and_parts, or_right, not-true}
 use Rattle.std.proofs.lemmas.List.Folds.{list_any-append}
 use Rattle.std.proofs.lemmas.List.FromFn.{get_or-range_with_len, length-range_with_len}
 use Rattle.std.proofs.lemmas.List.Quantifiers.{position-Some}
-use Rattle.plural_base.proofs.ListTests.{list_all_weaker}
-use Rattle.plural_map.specs.declared.outcome.Outcome.{Outcome}
 use Rattle.plural_map.specs.Value.{TaskValue}
-use Rattle.plural_map.specs.Decisions.{outcome_at, HasPredecessors}
 use Rattle.plural_map.specs.Order.{is_among, has_all_done, is_ready, next_ready, order_from, order_of}
 
 -- ---- what it is to be ready

@@ -1,23 +1,24 @@
 -- Lines without a fault spell parts within the limits, and those of a whole section spell a map within them all.
-use Rattle.std.proofs.Common.{◌≡◌, ℕ, ◌+◌, ◌%◌, ◌<◌, ◌≤◌, true, false, Some, None, Option, List, [], length, map, sum, get_or, refl, ap, subst, arith}
+use Rattle.std.proofs.Common.{◌≡◌, ℕ, ◌+◌, ◌%◌, ◌<◌, ◌≤◌, true, false, Some, None, Option, List, [], length, map, sum, get_or, refl, ap, sym, subst, arith}
 use Rattle.std.specs.Prelude.{◌≢◌, ◌&&◌, ◌||◌, ◌==◌, not, ⊤, MatchOption, bytes_eq, nat_le, nat_lt, unwrap_or, is_none, option_map}
 use Rattle.std.specs.List.{All, AllPairs}
 use Rattle.std.specs.Option.{option_map_or}
 use Rattle.std.proofs.lemmas.Bool.{eqb-true, leb-false, ltb-false, leb-true, both_ways, not-false, or_parts, and_parts}
 use Rattle.plural_regions.specs.declared.region.Region.{Region}
+use Rattle.plural_regions.specs.declared.region.Mode.{Mode}
 use Rattle.plural_regions.specs.Bounds.{AllInside}
 use Rattle.plural_map_text.specs.declared.line.MapLine.{MapLine}
 use Rattle.plural_map_text.specs.declared.line.MapLine.TheVariants as line
 use Rattle.plural_map_text.specs.declared.line.TaskKind.{TaskKind}
 use Rattle.plural_map_text.specs.declared.line.TaskKind.TheVariants as kind
-use Rattle.plural_map.specs.declared.outcome.Dep.{Dep}
+use Rattle.plural_map.specs.declared.outcome.When.{When}
 use Rattle.plural_map.specs.Value.{TaskValue, with_dep, with_region}
 use Rattle.plural_map.specs.Limits.{IsMap, is_set_count}
 use Rattle.plural_map.specs.Order.{IsDeclaredInOrder}
 use Rattle.plural_map_text.specs.RegionOf.{region_of}
 use Rattle.plural_map_text.specs.Parts.{Parts, tasks_of, with_line, nothing, whole, quota_of, is_dup}
 use Rattle.plural_map.specs.Lookup.{number_of, has_task}
-use Rattle.plural_map_text.specs.Rules.{has, has_dep, names_current, task_count, instance_count, exceeds_instances, is_between, is_out_of_place, is_out_of_range, is_misnamed, is_too_many}
+use Rattle.plural_map_text.specs.Rules.{has, has_dep, task_count, instance_count, is_between, is_out_of_place, is_out_of_range, is_misnamed, is_too_many}
 use Rattle.plural_map_text.specs.Verdicts.{IsInsideAt}
 use Rattle.plural_map_text.proofs.TaskLimits.{IsDeclared, task_from_declared, dep_added, region_added, length_all, quotas_all, names_all, declared_all, new_name_all, number_below}
 use Rattle.plural_map.proofs.DeclarationOrder.{declared_order, among_range}
@@ -156,77 +157,56 @@ kept_task labels n p name tk entry budget k place range misnamed many =
       };
     }
 
-kept_after : (labels : List (List ℕ)) (n : ℕ) (p : Parts) (name : List ℕ) (when : _) → IsKept n p → is_out_of_place n p (line.After name when) ≡ false → is_misnamed labels p (line.After name when) ≡ false → is_too_many p (line.After name when) ≡ false
-    → IsKept (n + 1) (with_line p (line.After name when))
+-- A current task that gets something more, and keeps its name and its instances, keeps the limits of all tasks.
+kept_current : (n : ℕ) (p : Parts) (more : TaskValue → TaskValue) → ((t : TaskValue) → (more t).name ≡ t.name) → ((t : TaskValue) → (more t).quota ≡ t.quota) → IsKept n p → 2 ≤ n
+    → MatchOption (option_map more p.current) ⊤ (IsDeclared p.words (length p.earlier)) → IsKept (n + 1) (record p { current = option_map more p.current })
+kept_current n p more name quota k low current = record {
+  words = λ h. k.words (omega arith);
+  shape = λ h. k.shape (omega arith);
+  no_earlier = λ h. absurd (omega arith);
+  no_current = λ h. absurd (omega arith);
+  few = subst (λ (c : ℕ). length p.earlier + c ≤ 64) (same_one p.current) k.few;
+  quotas = subst (λ (c : ℕ). sum (map (λ (t : TaskValue). t.quota) p.earlier) + c ≤ 65536) (same_quota p.current) k.quotas;
+  names = k.names;
+  new_name = same_name p.current k.new_name;
+  earlier = k.earlier;
+  current = current;
+}
+  where
+    same_one : (o : Option TaskValue) → option_map_or one o 0 ≡ option_map_or one (option_map more o) 0
+    same_one None = refl
+    same_one (Some t) = refl
+
+    same_quota : (o : Option TaskValue) → option_map_or (λ (t : TaskValue). t.quota) o 0 ≡ option_map_or (λ (t : TaskValue). t.quota) (option_map more o) 0
+    same_quota None = refl
+    same_quota (Some t) = sym (quota t)
+
+    same_name : (o : Option TaskValue) → MatchOption o ⊤ (λ t. All (λ e. e.name ≢ t.name) p.earlier) → MatchOption (option_map more o) ⊤ (λ t. All (λ e. e.name ≢ t.name) p.earlier)
+    same_name None h = tt
+    same_name (Some t) h = subst (λ (x : List ℕ). All (λ (e : TaskValue). e.name ≢ x) p.earlier) (sym (name t)) h
+
+kept_after : (labels : List (List ℕ)) (n : ℕ) (p : Parts) (name : List ℕ) (when : When) → IsKept n p → is_out_of_place n p (line.After name when) ≡ false → is_misnamed labels p (line.After name when) ≡ false
+    → is_too_many p (line.After name when) ≡ false → IsKept (n + 1) (with_line p (line.After name when))
 kept_after labels n p name when k place misnamed many =
     let low : 2 ≤ n = ltb-false n 2 (or_parts (nat_lt n 2) (is_none p.current) place).0 in
     let number = number_of name p.earlier in
     let named : has_task p.earlier name ≡ true = not-false (has_task p.earlier name) (or_parts (not (has_task p.earlier name)) (option_map_or (has_dep number) p.current false) misnamed).0 in
     let new = (or_parts (not (has_task p.earlier name)) (option_map_or (has_dep number) p.current false) misnamed).1 in
-    record {
-      words = λ h. k.words (omega arith);
-      shape = λ h. k.shape (omega arith);
-      no_earlier = λ h. absurd (omega arith);
-      no_current = λ h. absurd (omega arith);
-      few = subst (λ (c : ℕ). length p.earlier + c ≤ 64) (same_one p.current) k.few;
-      quotas = subst (λ (c : ℕ). sum (map (λ (t : TaskValue). t.quota) p.earlier) + c ≤ 65536) (same_quota p.current) k.quotas;
-      names = k.names;
-      new_name = same_name p.current k.new_name;
-      earlier = k.earlier;
-      current = more p.current k.current new many (number_below name p.earlier named);
-    }
+    kept_current n p (with_dep (record { task = number; when = when })) (λ t. refl) (λ t. refl) k low (more p.current k.current new many (number_below name p.earlier named))
   where
-    dep : Dep
-    dep = record { task = number_of name p.earlier; when = when }
-
-    same_one : (o : Option TaskValue) → option_map_or one o 0 ≡ option_map_or one (option_map (with_dep dep) o) 0
-    same_one None = refl
-    same_one (Some t) = refl
-
-    same_quota : (o : Option TaskValue) → option_map_or (λ (t : TaskValue). t.quota) o 0 ≡ option_map_or (λ (t : TaskValue). t.quota) (option_map (with_dep dep) o) 0
-    same_quota None = refl
-    same_quota (Some t) = refl
-
-    same_name : (o : Option TaskValue) → MatchOption o ⊤ (λ t. All (λ e. e.name ≢ t.name) p.earlier) → MatchOption (option_map (with_dep dep) o) ⊤ (λ t. All (λ e. e.name ≢ t.name) p.earlier)
-    same_name None h = tt
-    same_name (Some t) h = h
-
     more : (o : Option TaskValue) → MatchOption o ⊤ (IsDeclared p.words (length p.earlier)) → option_map_or (has_dep (number_of name p.earlier)) o false ≡ false → option_map_or (λ (t : TaskValue). nat_le 16 (length t.deps)) o false ≡ false
-        → number_of name p.earlier < length p.earlier → MatchOption (option_map (with_dep dep) o) ⊤ (IsDeclared p.words (length p.earlier))
+        → number_of name p.earlier < length p.earlier → MatchOption (option_map (with_dep (record { task = number_of name p.earlier; when = when })) o) ⊤ (IsDeclared p.words (length p.earlier))
     more None d new room l = tt
     more (Some t) d new room l = dep_added p.words (length p.earlier) t (number_of name p.earlier) when d l new room
 
-kept_region : (n : ℕ) (p : Parts) (mode : _) (base stride count : Option ℕ) → IsKept n p → is_out_of_place n p (line.Region mode base stride count) ≡ false → is_too_many p (line.Region mode base stride count) ≡ false
+kept_region : (n : ℕ) (p : Parts) (mode : Mode) (base stride count : Option ℕ) → IsKept n p → is_out_of_place n p (line.Region mode base stride count) ≡ false → is_too_many p (line.Region mode base stride count) ≡ false
     → IsInsideAt p (line.Region mode base stride count) → IsKept (n + 1) (with_line p (line.Region mode base stride count))
 kept_region n p mode base stride count k place many inside =
     let low : 2 ≤ n = ltb-false n 2 (or_parts (nat_lt n 2) (is_none p.current) place).0 in
-    record {
-      words = λ h. k.words (omega arith);
-      shape = λ h. k.shape (omega arith);
-      no_earlier = λ h. absurd (omega arith);
-      no_current = λ h. absurd (omega arith);
-      few = subst (λ (c : ℕ). length p.earlier + c ≤ 64) (same_one p.current) k.few;
-      quotas = subst (λ (c : ℕ). sum (map (λ (t : TaskValue). t.quota) p.earlier) + c ≤ 65536) (same_quota p.current) k.quotas;
-      names = k.names;
-      new_name = same_name p.current k.new_name;
-      earlier = k.earlier;
-      current = more p.current k.current many inside;
-    }
+    kept_current n p (with_region region) (λ t. refl) (λ t. refl) k low (more p.current k.current many inside)
   where
     region : Region
     region = region_of mode base stride count
-
-    same_one : (o : Option TaskValue) → option_map_or one o 0 ≡ option_map_or one (option_map (with_region region) o) 0
-    same_one None = refl
-    same_one (Some t) = refl
-
-    same_quota : (o : Option TaskValue) → option_map_or (λ (t : TaskValue). t.quota) o 0 ≡ option_map_or (λ (t : TaskValue). t.quota) (option_map (with_region region) o) 0
-    same_quota None = refl
-    same_quota (Some t) = refl
-
-    same_name : (o : Option TaskValue) → MatchOption o ⊤ (λ t. All (λ e. e.name ≢ t.name) p.earlier) → MatchOption (option_map (with_region region) o) ⊤ (λ t. All (λ e. e.name ≢ t.name) p.earlier)
-    same_name None h = tt
-    same_name (Some t) h = h
 
     more : (o : Option TaskValue) → MatchOption o ⊤ (IsDeclared p.words (length p.earlier)) → option_map_or (λ (t : TaskValue). nat_le 8 (length t.regions)) o false ≡ false
         → MatchOption o ⊤ (λ t. AllInside region t.quota p.words) → MatchOption (option_map (with_region region) o) ⊤ (IsDeclared p.words (length p.earlier))

@@ -1,9 +1,9 @@
 -- Reading map lines one after the other.
-use Rattle.std.proofs.Common.{◌≡◌, ℕ, ◌+◌, ◌<◌, ◌≤◌, Some, None, Option, List, [], ◌∷◌, length, take, get_or, refl, ap, sym, subst, ◌∙◌, arith, ◌++◌, false, true, Bool}
-use Rattle.std.specs.Prelude.{Result, Ok, Err, IfOk, IfErr, MatchResult, nat_lt, MatchOption, ⊤}
+use Rattle.std.proofs.Common.{◌≡◌, ℕ, ◌+◌, ◌<◌, ◌≤◌, Some, None, Option, List, [], ◌∷◌, length, take, get_or, refl, ap, sym, subst, ◌∙◌, arith, ◌++◌, false}
+use Rattle.std.specs.Prelude.{Result, Ok, Err, IfOk, IfErr, MatchResult, MatchOption, ⊤}
 use Rattle.std.specs.List.{range_with_len}
 use Rattle.std.specs.Option.{option_map_or}
-use Rattle.std.proofs.lemmas.Bool.{false_from_ne_true, lt-ltb, ltb-true, le-ltb}
+use Rattle.std.proofs.lemmas.Bool.{false_from_ne_true, ltb-true}
 use Rattle.std.proofs.lemmas.List.{map_more, length-map, length_push, take_all}
 use Rattle.std.proofs.lemmas.List.Sums.{fold_push}
 use Rattle.plural_bytes.specs.Lines.{TextLine}
@@ -22,7 +22,7 @@ use Rattle.plural_map.specs.Order.{order_of}
 use Rattle.plural_map_text.specs.Shape.{shape_of}
 use Rattle.plural_map_text.specs.Parts.{Parts, with_line, with_read, with_text, nothing, parts_of, whole, map_of, tasks_of}
 use Rattle.plural_map_text.specs.Rules.{HasKind, ClosesEarly, Breaks, IsMapText, closed, rank, Faults, is_out_of_place, is_out_of_range, is_misnamed, is_too_many}
-use Rattle.plural_map_text.specs.Verdicts.{IsVerdict, IsInsideAt, IsFine, IsShapeFault, IsLineFault}
+use Rattle.plural_map_text.specs.Verdicts.{IsVerdict, IsInsideAt, IsFine, IsLineFault}
 use Rattle.plural_map_text.proofs.Verdicts.{no_kind}
 use Rattle.plural_map_text.proofs.MapLimits.{IsKept, kept_nothing, kept_blank, kept_more, kept_map, kept_in_order}
 use Rattle.plural_map.proofs.DeclarationOrder.{declared_order}
@@ -50,7 +50,7 @@ shaped_rule version labels all before (c ∷ cs) s k e = rw e refl
 -- ---- a line with a fault
 
 -- The fault that the reader finds is one by the rule, and the least.
-pub record IsLeastFault (version : ℕ) (labels : List (List ℕ)) (all before : List TextLine) (text : List ℕ) (kind : MapKind) : Type 0 where
+record IsLeastFault (version : ℕ) (labels : List (List ℕ)) (all before : List TextLine) (text : List ℕ) (kind : MapKind) : Type 0 where
   pub breaks : Breaks version labels all before text kind
   pub least : (k : MapKind) → Breaks version labels all before text k → rank kind ≤ rank k
 
@@ -150,20 +150,7 @@ reads_all version labels all xs i p h r = subst (λ (ys : List Line). Reads vers
 
 -- ---- the line that closes the section
 
--- If fewer than two lines stand before it, it has a fault of form.
-pub end_first : (version : ℕ) (labels : List (List ℕ)) (lines : List TextLine) (end : ℕ) (p : Parts) → Reads version labels lines lines p → length lines < 2
-    → IsFirstFault rank (Breaks version labels lines) (closed lines end) end kinds.Form
-end_first version labels lines end p r h = record {
-  before = lines;
-  text = [];
-  after = [];
-  whole = refl;
-  earlier = r.faultless;
-  breaks = (refl, lt-ltb (length lines) 2 h);
-  least = λ k b. form_low k;
-}
-
--- If two or more do, the section has no fault.
+-- After two lines or more without a fault, it has none.
 pub closed_faultless : (version : ℕ) (labels : List (List ℕ)) (all lines : List TextLine) (end : ℕ) → IsFaultless (Breaks version labels all) lines → 2 ≤ length lines
     → IsFaultless (Breaks version labels all) (closed lines end)
 closed_faultless version labels all lines end f h = faultless_push (Breaks version labels all) lines (end, []) f (λ k b. let l : length lines < 2 = ltb-true (length lines) 2 b.1 in omega arith)

@@ -1,13 +1,11 @@
 -- The map that map lines spell.
-use Rattle.std.specs.Prelude.{ℕ, Bool, true, false, List, [], ◌∷◌, ◌++◌, Option, Some, None, fold, unwrap_or, option_map}
+use Rattle.std.specs.Prelude.{ℕ, Bool, true, false, List, [], ◌++◌, Option, Some, None, fold, unwrap_or, option_map}
 use Rattle.std.specs.Option.{option_map_or, option_to_list}
 use Rattle.plural_bytes.specs.Lines.{TextLine}
-use Rattle.plural_regions.specs.declared.region.Region.{Region}
 use Rattle.plural_map_text.specs.declared.line.MapLine.{MapLine}
 use Rattle.plural_map_text.specs.declared.line.MapLine.TheVariants as line
 use Rattle.plural_map_text.specs.declared.line.TaskKind.{TaskKind}
 use Rattle.plural_map_text.specs.declared.line.TaskKind.TheVariants as kind
-use Rattle.plural_map.specs.declared.outcome.Dep.{Dep}
 use Rattle.plural_map.specs.Value.{TaskValue, MapValue, with_dep, with_region}
 use Rattle.plural_map.specs.Lookup.{number_of}
 use Rattle.plural_map_text.specs.Shape.{shape_of}

@@ -1,10 +1,10 @@
 -- The faults of map lines: which kinds a line has, by the version, all lines of the section and those before the line.
-use Rattle.std.specs.Prelude.{◌≡◌, ℕ, ◌+◌, ◌%◌, ◌≤◌, Bool, true, false, not, ◌||◌, ◌&&◌, List, [], ◌∷◌, ◌++◌, Option, Some, MatchOption, length, map, sum, is_none, nat_le, nat_lt, bytes_eq, ◌==◌, unwrap_or, ⊤}
+use Rattle.std.specs.Prelude.{◌≡◌, ℕ, ◌+◌, ◌%◌, Bool, true, false, not, ◌||◌, ◌&&◌, List, [], ◌∷◌, ◌++◌, Option, MatchOption, length, map, sum, is_none, nat_le, nat_lt, bytes_eq, ◌==◌, unwrap_or, ⊤}
 use Rattle.std.specs.List.{list_any}
 use Rattle.std.specs.Option.{option_map_or}
 use Rattle.plural_bytes.specs.Lines.{TextLine}
 use Rattle.plural_bytes.specs.Faults.{IsFaultless, IsFirstFault}
-use Rattle.plural_regions.specs.Bounds.{AllInside, IsLeastOutside}
+use Rattle.plural_regions.specs.Bounds.{IsLeastOutside}
 use Rattle.plural_map_text.specs.declared.line.MapLine.{MapLine}
 use Rattle.plural_map_text.specs.declared.line.MapLine.TheVariants as line
 use Rattle.plural_map_text.specs.declared.fault.MapKind.{MapKind}

@@ -1,9 +1,8 @@
 -- Places in the order: no task comes before itself or an earlier one of it.
 use Rattle.std.proofs.Common.{◌≡◌, ℕ, zero, suc, ◌<◌, ◌≤◌, Bool, true, false, ◌||◌, eqb, List, [], ◌∷◌, ◌++◌, length, take, get_or, refl, sym, ap, subst, ◌∙◌, arith, eqb-true}
 use Rattle.std.specs.Prelude.{slice_index, ◌==◌}
-use Rattle.std.specs.List.{list_any, list_all}
-use Rattle.std.proofs.lemmas.Bool.{and_parts, eq-eqb}
-use Rattle.plural_map.specs.declared.outcome.Dep.{Dep}
+use Rattle.std.specs.List.{list_any}
+use Rattle.std.proofs.lemmas.Bool.{eq-eqb}
 use Rattle.plural_map.specs.Value.{TaskValue}
 use Rattle.plural_map.specs.Order.{is_among, order_of}
 use Rattle.plural_map.proofs.OrderLemmas.{order_ready, ready_task, order_new}

@@ -1,6 +1,6 @@
 -- A task's place in the order, and the test for coming before.
-use Rattle.std.proofs.Common.{◌≡◌, ℕ, zero, suc, ◌+◌, ◌<◌, ◌≤◌, Bool, true, false, ◌||◌, eqb, cond, List, [], ◌∷◌, ◌++◌, length, take, get_or, Option, Some, None, refl, sym, ap, subst, ◌∙◌, arith, eqb-true, ◌⊎◌, inl, inr, ⊎_elim}
-use Rattle.std.specs.Prelude.{slice_get, ◌==◌}
+use Rattle.std.proofs.Common.{◌≡◌, ℕ, zero, suc, ◌+◌, ◌<◌, ◌≤◌, Bool, true, false, ◌||◌, eqb, cond, List, [], ◌∷◌, ◌++◌, length, take, get_or, Option, Some, None, refl, sym, ap, subst, ◌∙◌, arith, eqb-true, ◌⊎◌, ⊎_elim}
+use Rattle.std.specs.Prelude.{◌==◌}
 use Rattle.std.specs.List.{list_any}
 use Rattle.std.specs.Option.{option_map_or}
 use Rattle.std.proofs.lemmas.Bool.{eq-eqb}
@@ -10,10 +10,9 @@ use Rattle.plural_map.specs.declared.outcome.Dep.{Dep}
 use Rattle.plural_map.specs.Value.{TaskValue}
 use Rattle.plural_map.specs.Order.{is_among, next_ready, order_from, order_of}
 use Rattle.plural_reach.specs.Chains.{deps_of, DependsOn, LeadsBack, Before, before_in, comes_before}
-use Rattle.plural_reach.specs.declared.tables.Reach.{Reach}
-use Rattle.plural_reach.specs.Tables.{IsReachOf, says_before}
+use Rattle.plural_reach.specs.Tables.{says_before}
 use Rattle.plural_reach.specs.Laws.{place_in, rank_of, Reaches, BeforeTest, TableTest, BeforeRises}
-use Rattle.plural_reach.proofs.DepLemmas.{or_cases, or_left, or_right, names, any_weaker}
+use Rattle.plural_reach.proofs.DepLemmas.{or_cases, or_left, or_right, any_weaker}
 use Rattle.plural_reach.proofs.ChainLemmas.{dependent}
 use Rattle.plural_reach.proofs.Places.{step_back}
 

@@ -1,5 +1,5 @@
 -- What holds of coming before, in a list of tasks that its order reaches each of.
-use Rattle.std.specs.Prelude.{ℕ, zero, suc, ◌≡◌, ◌<◌, ◌↔◌, ◌==◌, true, List, [], ◌∷◌, length, cond}
+use Rattle.std.specs.Prelude.{ℕ, suc, ◌≡◌, ◌<◌, ◌↔◌, ◌==◌, true, List, [], ◌∷◌, length, cond}
 use Rattle.plural_map.specs.Value.{TaskValue}
 use Rattle.plural_map.specs.Order.{is_among, order_of}
 use Rattle.plural_reach.specs.declared.tables.Reach.{Reach}

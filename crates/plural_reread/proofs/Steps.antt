@@ -1,16 +1,13 @@
 -- Texts whose lines are read one after the other without a fault.
-use Rattle.std.proofs.Common.{◌≡◌, ℕ, ◌+◌, ◌≤◌, true, false, Some, List, [], ◌∷◌, ◌++◌, length, refl, ap, sym, subst, ◌∙◌, arith, append_assoc}
+use Rattle.std.proofs.Common.{◌≡◌, ℕ, ◌+◌, ◌≤◌, true, Some, List, [], ◌∷◌, ◌++◌, length, refl, ap, sym, subst, ◌∙◌, arith, append_assoc}
 use Rattle.std.specs.List.{list_all}
-use Rattle.std.specs.Option.{option_map_or}
-use Rattle.std.proofs.lemmas.Bool.{le-ltb}
 use Rattle.std.proofs.lemmas.List.{append-nil, length-append}
-use Rattle.std.proofs.lemmas.List.Sums.{fold_push}
 use Rattle.plural_bytes.specs.Lines.{TextLine, pieces, content_from}
 use Rattle.plural_bytes.proofs.Tokens.{is_token, joined, tokens_joined, line_next}
 use Rattle.plural_map_text.specs.declared.line.MapLine.{MapLine}
 use Rattle.plural_map_text.specs.declared.line.MapLine.TheVariants as line
 use Rattle.plural_map_text.specs.Shape.{shape, shape_of}
-use Rattle.plural_map_text.specs.Parts.{Parts, with_line, with_text, nothing, parts_of}
+use Rattle.plural_map_text.specs.Parts.{Parts, with_line}
 use Rattle.plural_map_text.proofs.ReadLines.{Reads, Passes, reads_push}
 
 -- ---- texts after the first two lines
