@@ -1,0 +1,8 @@
+pub mod FirstFaults
+pub mod Delegation
+pub mod Closings
+pub mod Cuts
+pub mod PassedErrors
+pub mod ReadLines
+mod Caps
+mod WordTokens

@@ -1,0 +1,10 @@
+pub use Rattle.plural_bytes.specs.Lines
+pub use Rattle.plural_bytes.specs.Numerals
+pub use Rattle.plural_bytes.specs.Spelled
+pub mod Faults
+pub mod Kinds
+pub mod LineKinds
+pub mod Errors
+pub mod Numbers
+pub mod Sections
+pub mod Borders
