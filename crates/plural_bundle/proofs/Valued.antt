@@ -18,7 +18,7 @@ use Rattle.plural_image.specs.Image as image
 use Rattle.plural_image.specs.Image.{placed, image_of, overwritten}
 use Rattle.plural_image.specs.declared.fault.ImageKind.TheVariants.{Address}
 use Rattle.plural_image.proofs.Imaged.{length-overwritten}
-use Rattle.plural_serial.specs.Program.{IsProgram}
+use Rattle.plural_serial.specs.Program.{HasEntries}
 use Rattle.plural_bundle.specs.Value.{pc_of}
 
 -- ---- pcs
@@ -55,8 +55,8 @@ entries_aligned labels (k ∷ ks) zero h l = pc_aligned labels k.entry h
 entries_aligned labels (k ∷ ks) (suc t) h l = entries_aligned labels ks t h (omega arith)
 
 -- each task has one entry, a multiple of 4
-pub is_program : (m : MapValue) (code : List ℕ) (labels : List Label) (entries : List ℕ) → AreAligned labels → entries ≡ map (λ (k : TaskValue). pc_of labels k.entry) m.tasks → IsProgram (record { map = m; code = code; entries = entries })
-is_program m code labels entries h e = subst (λ x. IsProgram (record { map = m; code = code; entries = x })) (sym e) (record {
+pub is_program : (m : MapValue) (code : List ℕ) (labels : List Label) (entries : List ℕ) → AreAligned labels → entries ≡ map (λ (k : TaskValue). pc_of labels k.entry) m.tasks → HasEntries (record { map = m; code = code; entries = entries })
+is_program m code labels entries h e = subst (λ x. HasEntries (record { map = m; code = code; entries = x })) (sym e) (record {
   one_each = length-map m.tasks (λ (k : TaskValue). pc_of labels k.entry);
   aligned = λ t l. entries_aligned labels m.tasks t h (omega (arith, l, length-map m.tasks (λ (k : TaskValue). pc_of labels k.entry)));
 })

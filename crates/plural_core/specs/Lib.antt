@@ -1,3 +1,4 @@
+pub use Rattle.plural_base.specs.Told
 pub mod Arithmetic
 pub mod Subword
 pub mod Act

@@ -1,3 +1,4 @@
+pub use Rattle.plural_base.specs.CacheShape
 pub use Rattle.plural_base.specs.Names
 pub use Rattle.plural_regions.specs.Rights
 pub use Rattle.plural_regions.specs.Bounds

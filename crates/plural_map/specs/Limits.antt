@@ -1,6 +1,7 @@
 -- The limits of a task and of a map.
-use Rattle.std.specs.Prelude.{ℕ, ◌≡◌, ◌≢◌, ◌<◌, ◌≤◌, ◌%◌, Bool, true, false, ◌==◌, List, [], ◌∷◌, length, map, sum}
-use Rattle.std.specs.List.{All, AllPairs, list_any}
+use Rattle.std.specs.Prelude.{ℕ, ◌≡◌, ◌≢◌, ◌<◌, ◌≤◌, ◌%◌, true, false, List, length, map, sum}
+use Rattle.std.specs.List.{All, AllPairs}
+use Rattle.plural_base.specs.CacheShape.{is_set_count}
 use Rattle.plural_regions.specs.Rights.{may_read}
 use Rattle.plural_map.specs.Value.{TaskValue, MapValue}
 use Rattle.plural_map.specs.Order.{is_among, order_of}
@@ -17,10 +18,6 @@ pub record IsTask (words : ℕ) (tasks : List TaskValue) (task : TaskValue) : Ty
   pub deps_differ : AllPairs (λ d e. d.task ≢ e.task) task.deps
   pub few_regions : length task.regions ≤ 8
   pub inside : (k a : ℕ) → k < task.quota → may_read task.regions k a ≡ true → a < words
-
--- A power of two from 1 to 64.
-abbrev pub is_set_count : ℕ → Bool
-is_set_count sets = list_any (λ n. n == sets) (1 ∷ 2 ∷ 4 ∷ 8 ∷ 16 ∷ 32 ∷ 64 ∷ [])
 
 -- A map within all limits, whose order is that of its tasks and reaches each of them.
 pub record IsMap (m : MapValue) : Type 0 where

@@ -13,7 +13,8 @@ use Rattle.plural_map_text.specs.declared.line.TaskKind.{TaskKind}
 use Rattle.plural_map_text.specs.declared.line.TaskKind.TheVariants as kind
 use Rattle.plural_map.specs.declared.outcome.When.{When}
 use Rattle.plural_map.specs.Value.{TaskValue, with_dep, with_region}
-use Rattle.plural_map.specs.Limits.{IsMap, is_set_count}
+use Rattle.plural_base.specs.CacheShape.{is_set_count}
+use Rattle.plural_map.specs.Limits.{IsMap}
 use Rattle.plural_map.specs.Order.{IsDeclaredInOrder}
 use Rattle.plural_map_text.specs.RegionOf.{region_of}
 use Rattle.plural_map_text.specs.Parts.{Parts, tasks_of, with_line, nothing, whole, quota_of, is_dup}

@@ -14,7 +14,7 @@ use Rattle.plural_map_text.specs.declared.fault.MapError.TheVariants as error
 use Rattle.plural_map.specs.Value.{TaskValue}
 use Rattle.plural_map_text.specs.Shape.{shape_of}
 use Rattle.plural_map_text.specs.RegionOf.{region_of}
-use Rattle.plural_map.specs.Limits.{is_set_count}
+use Rattle.plural_base.specs.CacheShape.{is_set_count}
 use Rattle.plural_map_text.specs.Parts.{Parts, quota_of, parts_of}
 use Rattle.plural_map.specs.Lookup.{number_of, has_task}
 

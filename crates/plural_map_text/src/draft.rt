@@ -3,7 +3,7 @@ ghost use Rattle.std.specs.Prelude.{◌≡◌, ◌≤◌, length, map, sum, IfNo
 ghost use Rattle.std.specs.Option.{option_map_or};
 ghost use Rattle.plural_regions.specs.Bounds.{AllInside, IsLeastOutside};
 ghost use Rattle.plural_map_text.specs.declared.fault.MapKind.{MapKind};
-ghost use Rattle.plural_map.specs.Limits.{is_set_count};
+ghost use Rattle.plural_base.specs.CacheShape.{is_set_count};
 ghost use Rattle.plural_map_text.specs.RegionOf.{region_of};
 ghost use Rattle.plural_map_text.specs.Parts.{quota_of, is_dup, with_line, with_read, tasks_of};
 ghost use Rattle.plural_map.specs.Lookup.{number_of, has_task};

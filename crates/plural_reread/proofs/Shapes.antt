@@ -14,7 +14,7 @@ use Rattle.plural_map_text.specs.declared.line.TaskKind.TheVariants as kind
 use Rattle.plural_map.specs.declared.outcome.When.{When}
 use Rattle.plural_map.specs.declared.outcome.When.TheVariants as when
 use Rattle.plural_map.specs.Value.{TaskValue}
-use Rattle.plural_map.specs.Limits.{is_set_count}
+use Rattle.plural_base.specs.CacheShape.{is_set_count}
 use Rattle.plural_map_text.specs.Shape.{shape, when_of}
 use Rattle.plural_map_text.specs.Parts.{quota_of, is_dup}
 use Rattle.plural_map_text.specs.Print.{line_text, kind_text, task_line, when_text, mode_text}

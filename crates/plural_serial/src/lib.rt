@@ -14,6 +14,7 @@ pub mod laws;
 mod machine;
 mod outcome;
 mod program;
+mod reading;
 mod record_;
 
 pub use answer::Answer;

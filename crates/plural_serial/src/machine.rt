@@ -2,7 +2,7 @@ ghost use Rattle.std.specs.Prelude.{◌≡◌, ℕ, ◌+◌, ◌-◌, ◌%◌, �
 ghost use Rattle.plural_map.specs.Value.{TaskValue};
 ghost use Rattle.plural_map.specs.Limits.{IsTask};
 ghost use Rattle.plural_map.specs.Decisions.{HasPredecessors};
-ghost use Rattle.plural_serial.specs.Program.{task_at, life_of};
+ghost use Rattle.plural_serial.specs.Program.{IsMemory, task_at, life_of};
 ghost use Rattle.plural_serial.specs.Cached.{IsShaped};
 ghost use Rattle.plural_serial.specs.Serial.{Started, end_of, outcome_of, instances, with_task};
 ghost use Rattle.plural_serial.specs.Answer.{record_of, IsTaskRun, IsSerial};
@@ -13,6 +13,7 @@ use crate::cached::Cached;
 use crate::flat::Flat;
 use crate::outcome::{settled, with_end};
 use crate::program::Program;
+use crate::reading::read_each;
 use crate::record_::Record;
 use plural_base::Memory;
 use plural_cache::Cache;
@@ -115,6 +116,7 @@ pub fn serial(alloc: Global, program: &Program, image: &[u32]) -> Result<Answer,
     requires { length image.now ≡ program.now.map.words }
     ensures answer { IfOk result (IsSerial program.now image.now) }
     ensures words { IfOk result (λ a. length a.image ≡ program.now.map.words) }
+    ensures memory { IfOk result (λ a. IsMemory program.now.map a.image) }
     ensures one_each { IfOk result (λ a. length a.outcomes ≡ length program.now.map.tasks) }
     ensures tasks { IfOk result (λ a. All (λ (r : Record). r.t < length program.now.map.tasks) a.records) }
     ensures few { IfOk result (λ a. length a.records ≤ 65536) }
@@ -129,5 +131,7 @@ pub fn serial(alloc: Global, program: &Program, image: &[u32]) -> Result<Answer,
         outcomes[*t as usize] = Some(outcome);
     }
     let outcomes = settled(alloc, &outcomes)?;
-    Ok(Answer::of(flat.into_words(), outcomes, records))
+    let words = flat.into_words();
+    read_each(&words);
+    Ok(Answer::of(words, outcomes, records))
 }

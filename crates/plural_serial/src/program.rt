@@ -1,3 +1,4 @@
+use crate::reading::{read_code, read_each};
 use plural_isa::Code;
 use plural_map::{Map, Task};
 use std::marker::Model;
@@ -23,13 +24,15 @@ impl Model for Program {
 impl Program {
     ghost use Rattle.std.specs.Prelude.{◌≡◌, ◌<◌, ◌%◌, length, slice_index};
     ghost use Rattle.plural_map.specs.Limits.{IsTask};
-    ghost use Rattle.plural_serial.specs.Program.{IsProgram, task_at};
+    ghost use Rattle.plural_serial.specs.Program.{HasEntries, IsProgram, task_at};
 
     /// The program of a map, its code and the pc at which each task begins, in bytes.
     pub fn of(map: Map, code: Code, entries: Vec<u32>) -> Program
-        requires { IsProgram (record { map = map; code = code; entries = entries.items }) }
+        requires { HasEntries (record { map = map; code = code; entries = entries.items }) }
         ensures { result ≡ record { map = map; code = code; entries = entries.items } }
     {
+        read_code(&code);
+        read_each(&entries);
         Program { map, code, entries }
     }
 

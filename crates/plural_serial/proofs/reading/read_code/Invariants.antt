@@ -1,0 +1,6 @@
+use Rattle.std.proofs.Common.{ℕ, ◌<◌, ◌^◌, get_or}
+use Rattle.plural_serial.proofs.reading.read_code.Given as goal
+
+-- Those that were read are words.
+abbrev pub invariant-loop-i : goal.invariant-loop-i
+invariant-loop-i l = (j : ℕ) → j < l.i → get_or l.code j 0 < 2 ^ 32
