@@ -1,6 +1,6 @@
 pub mod Outcomes
-pub mod Listed
-pub mod Worded
-pub mod Inputs
-pub mod Logged
-pub mod Commands
+pub mod LineCounts
+pub mod WordLines
+pub mod WholeInputs
+pub mod LogTasks
+pub mod CommandWords

@@ -17,6 +17,11 @@ pub record IsAssembled (lines : List TextLine) (status : ℕ) (text : List ℕ) 
   pub status_is : status ≡ 0
   pub text_is : text ≡ code_text (code_of lines lines)
 
--- The status and the text of an input that is not too long: the code of its content lines, or their first fault.
+-- The status and the text of kernel lines: their code, or their first fault.
+abbrev pub IsKernelAnswer : (lines : List TextLine) (status : ℕ) (text : List ℕ) → Type 0
+IsKernelAnswer lines status text =
+    IsAssembled lines status text ⊎ IsRefused rank kind_text (Breaks lines) lines status text
+
+-- The status and the text of an input that is not too long are those of its content lines.
 abbrev pub IsAsmAnswer : (bytes : List ℕ) (status : ℕ) (text : List ℕ) → Type 0
-IsAsmAnswer bytes status text = IsAssembled (content_lines bytes) status text ⊎ IsRefused rank kind_text (Breaks (content_lines bytes)) (content_lines bytes) status text
+IsAsmAnswer bytes status text = IsKernelAnswer (content_lines bytes) status text

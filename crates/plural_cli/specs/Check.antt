@@ -1,15 +1,19 @@
 -- What `check` answers to a bundle, and what `run` answers to one that clashes.
-use Rattle.std.specs.Prelude.{ℕ, ◌≡◌, ◌⊎◌, List, [], ◌∷◌, ◌++◌, codes, length, sum_by}
+use Rattle.std.specs.Prelude.{ℕ, ◌≡◌, ◌⊎◌, List, [], ◌∷◌, ◌++◌, codes, length, sum_by, Option, Some, None}
 use Rattle.std.specs.Fmt.{decimal}
 use Rattle.plural_map.specs.Value.{TaskValue}
 use Rattle.plural_map.specs.Lookup.{name_at}
 use Rattle.plural_bundle.specs.Value.{BundleValue}
 use Rattle.plural_crew.specs.Clashes.{IsAccepted, IsFirstClash}
+use Rattle.plural_cli.specs.declared.answer.Answer.{Answer}
 use Rattle.plural_cli.specs.Lines.{ToBundle}
 
 -- The line for tasks without a clash: how many they are, and how many instances.
 abbrev pub accepted_text : List TaskValue → List ℕ
-accepted_text tasks = (((codes "accepted: tasks " ++ decimal (length tasks)) ++ codes " instances ") ++ decimal (sum_by (λ t. t.quota) tasks)) ++ 10 ∷ []
+accepted_text tasks =
+    (((codes "accepted: tasks " ++ decimal (length tasks)) ++ codes " instances ")
+    ++ decimal (sum_by (λ t. t.quota) tasks))
+    ++ 10 ∷ []
 
 -- An instance by its task's name and its number.
 abbrev pub instance_text : List TaskValue → (t k : ℕ) → List ℕ
@@ -17,7 +21,10 @@ instance_text tasks t k = (name_at tasks t ++ codes " ") ++ decimal k
 
 -- The line for a clash: the two instances and the word.
 abbrev pub clash_text : List TaskValue → (t k u l a : ℕ) → List ℕ
-clash_text tasks t k u l a = (((((codes "clash: " ++ instance_text tasks t k) ++ codes " and ") ++ instance_text tasks u l) ++ codes " at word ") ++ decimal a) ++ 10 ∷ []
+clash_text tasks t k u l a =
+    (((((codes "clash: " ++ instance_text tasks t k) ++ codes " and ") ++ instance_text tasks u l) ++ codes " at word ")
+    ++ decimal a)
+    ++ 10 ∷ []
 
 -- The tasks have a clash: status 4, and the line of the first.
 pub record IsClashing (tasks : List TaskValue) (status : ℕ) (text : List ℕ) : Type 0 where
@@ -35,6 +42,11 @@ pub record IsClean (tasks : List TaskValue) (status : ℕ) (text : List ℕ) : T
   pub accepted : IsAccepted tasks
   pub status_is : status ≡ 0
   pub text_is : text ≡ accepted_text tasks
+
+-- There is no answer if the tasks have no clash; else the answer tells the first.
+abbrev pub IsClashAnswer : List TaskValue → Option Answer → Type 0
+IsClashAnswer tasks None = IsAccepted tasks
+IsClashAnswer tasks (Some a) = IsClashing tasks a.status a.text.items
 
 -- Tasks without a clash are counted, and of others the first clash is told.
 abbrev pub IsMapAnswer : List TaskValue → (status : ℕ) (text : List ℕ) → Type 0

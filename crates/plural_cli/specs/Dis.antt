@@ -10,7 +10,8 @@ use Rattle.plural_asm.specs.declared.object.AsmKind.TheVariants as kinds
 use Rattle.plural_asm.specs.Rules.{rank}
 use Rattle.plural_cli.specs.FaultLine.{kind_text, IsRefused}
 
--- A line's kinds of fault: form where it is no word of eight hexadecimal digits, count where 16,384 lines or more stand before it.
+-- A line's kinds of fault: form if it is no word of eight hexadecimal digits, count if 16,384 lines or more stand
+-- before it.
 abbrev pub dis_breaks : List TextLine → List ℕ → AsmKind → Type 0
 dis_breaks before text kinds.Form = word_token text ≡ None
 dis_breaks before text kinds.Number = ⊥
@@ -34,7 +35,8 @@ pub record IsDisassembled (lines : List TextLine) (status : ℕ) (text : List �
 
 -- The status and the text of lines: the assembler lines of their words, or their first fault.
 abbrev pub IsWordsAnswer : (lines : List TextLine) (status : ℕ) (text : List ℕ) → Type 0
-IsWordsAnswer lines status text = IsDisassembled lines status text ⊎ IsRefused rank kind_text dis_breaks lines status text
+IsWordsAnswer lines status text =
+    IsDisassembled lines status text ⊎ IsRefused rank kind_text dis_breaks lines status text
 
 -- The status and the text of an input that is not too long are those of its content lines.
 abbrev pub IsDisAnswer : (bytes : List ℕ) (status : ℕ) (text : List ℕ) → Type 0

@@ -16,7 +16,7 @@ kind_text kinds.Name = codes "name"
 kind_text kinds.Count = codes "count"
 kind_text kinds.Reach = codes "reach"
 
--- The word for a fault of a bundle, with the instance where a region lies outside.
+-- The word for a fault of a bundle. A region that lies outside is told with the instance.
 abbrev pub bundle_fault_text : Fault → List ℕ
 bundle_fault_text fault.Form = codes "form"
 bundle_fault_text fault.Number = codes "number"
@@ -31,7 +31,8 @@ abbrev pub fault_text : ℕ → List ℕ → List ℕ
 fault_text line word = (((codes "fault: line " ++ decimal line) ++ codes ": ") ++ word) ++ 10 ∷ []
 
 -- The answer to lines that have a fault: status 3, and the line that tells the first one.
-pub record IsRefused {K : Type 0} (rank : K → ℕ) (word : K → List ℕ) (Breaks : List TextLine → List ℕ → K → Type 0) (lines : List TextLine) (status : ℕ) (text : List ℕ) : Type 0 where
+pub record IsRefused {K : Type 0} (rank : K → ℕ) (word : K → List ℕ) (Breaks : List TextLine → List ℕ → K → Type 0)
+    (lines : List TextLine) (status : ℕ) (text : List ℕ) : Type 0 where
   pub line : ℕ
   pub kind : K
   pub first : IsFirstFault rank Breaks lines line kind

@@ -23,6 +23,8 @@ pub use Rattle.plural_bundle.specs.Rules as BundleRules
 pub use Rattle.plural_crew.specs.Clashes
 pub use Rattle.plural_bundle.specs.Value
 pub use Rattle.plural_bundle.specs.Answer
+pub mod Arguments
+pub mod Given
 pub mod Command
 pub mod Texts
 pub mod FaultLine

@@ -1,7 +1,13 @@
--- What a request answers to an input: its status and its text.
-use Rattle.std.specs.Prelude.{ℕ, ◌≡◌, ◌≢◌, ◌<◌, ◌≤◌, List, length}
+-- What `plural` answers: the status and the text of each command, and what is written of the text.
+use Rattle.std.specs.Prelude.{ℕ, ◌≡◌, ◌≢◌, ◌<◌, ◌≤◌, ◌⊎◌, List, Option, Some, None, String, string_bytes, length, map, IfSome}
+use Rattle.std.specs.declared.alloc.Global.{Global}
+use Rattle.std.specs.Io.KnownBytes.{Appends, IsAtEnd}
+use Rattle.plural_bytes.specs.Streams.{AppendsFront}
 use Rattle.plural_cli.specs.declared.command.Request.{Request}
 use Rattle.plural_cli.specs.declared.command.Request.TheVariants as request
+use Rattle.plural_cli.specs.declared.command.Command.TheVariants as command
+use Rattle.plural_cli.specs.Command.{command_of}
+use Rattle.plural_cli.specs.Made.{made_bytes}
 use Rattle.plural_cli.specs.Run.{IsSerialAnswer, IsRunAnswer}
 use Rattle.plural_cli.specs.Check.{IsCheckAnswer}
 use Rattle.plural_cli.specs.Asm.{IsAsmAnswer}
@@ -41,9 +47,62 @@ pub record IsAnswer (request : Request) (bytes : List ℕ) (status : ℕ) (text 
   pub too_long : limit_of request < length bytes → (status ≡ 3) × (text ≡ too_long_of request)
   pub answered : length bytes ≤ limit_of request → Answers request bytes status text
 
+-- The answer of a request to what a source held, if the source told it.
+abbrev pub AnswersHeld : Request → (left : Option (List ℕ)) (status : ℕ) (text : List ℕ) → Type 0
+AnswersHeld request left status text = IfSome left (λ bytes. IsAnswer request bytes status text)
+
 -- A status that tells of the input, and of nothing outside.
 pub record IsTold (status : ℕ) : Type 0 where
   pub words : status ≢ 2
   pub reading : status ≢ 5
   pub writing : status ≢ 6
   pub memory : status ≢ 7
+
+-- The words ask for a request, which reads an input.
+abbrev pub Asks : List (String Global) → Request → Type 0
+Asks words request = command_of (map string_bytes words) ≡ Some (command.Read request)
+
+-- The words ask for the bundle of a seed.
+abbrev pub AsksToMake : List (String Global) → ℕ → Type 0
+AsksToMake words seed = command_of (map string_bytes words) ≡ Some (command.Make seed)
+
+-- The words name no command.
+abbrev pub AsksNothing : List (String Global) → Type 0
+AsksNothing words = command_of (map string_bytes words) ≡ None
+
+-- A text that belongs to a status is written to a sink: all of it, and the call ends with this status; or a prefix of
+-- it, and the call ends with status 6.
+pub record Writes (status : ℕ) (text : List ℕ) (result : ℕ) (before after : Option (List ℕ)) : Type 0 where
+  pub whole : result ≢ 6 → (result ≡ status) × Appends before after text
+  pub failed : result ≡ 6 → AppendsFront before after text
+
+-- The answer of a request to what a source held is written, unless the call ends with status 5 or 7.
+abbrev pub WritesAnswer : Request → (left : Option (List ℕ)) (result : ℕ) (before after : Option (List ℕ)) → Type 0
+WritesAnswer request left result before after =
+    result ≢ 5 → result ≢ 7 → IfSome left
+    (λ bytes. (status : ℕ) × ((text : List ℕ) ×
+    (IsAnswer request bytes status text × Writes status text result before after)))
+
+-- The answer of the request that the words ask for is written.
+abbrev pub AnswersRequest : List (String Global) → (left : Option (List ℕ)) (result : ℕ)
+    (before after : Option (List ℕ)) → Type 0
+AnswersRequest words left result before after =
+    (request : Request) → Asks words request → WritesAnswer request left result before after
+
+-- The bundle of the seed that the words ask for is written, with status 0, unless the call ends with status 7.
+abbrev pub MakesBundle : List (String Global) → (result : ℕ) (before after : Option (List ℕ)) → Type 0
+MakesBundle words result before after =
+    (seed : ℕ) → AsksToMake words seed → result ≢ 7 → Writes 0 (made_bytes seed) result before after
+
+-- A status of an answer to a whole input: each that a request has but 3, which tells a fault.
+abbrev pub IsOfWhole : ℕ → Type 0
+IsOfWhole status = (status ≡ 0) ⊎ (status ≡ 1) ⊎ (status ≡ 4) ⊎ (status ≡ 8)
+
+-- An input of the request that isn't too long was read to its end.
+abbrev pub ReadsToEnd : Request → (left rest : Option (List ℕ)) → Type 0
+ReadsToEnd request left rest = IfSome left (λ bytes. length bytes ≤ limit_of request → IsAtEnd rest)
+
+-- An input with a fault was read to its end, unless it is too long.
+abbrev pub ReadsFaulty : List (String Global) → (result : ℕ) (left rest : Option (List ℕ)) → Type 0
+ReadsFaulty words result left rest =
+    (request : Request) → Asks words request → result ≡ 3 → ReadsToEnd request left rest

@@ -12,12 +12,12 @@ use Rattle.plural_crew.specs.Clashes.{IsAccepted}
 use Rattle.plural_cli.specs.Lines.{ToBundle}
 use Rattle.plural_cli.specs.Check.{IsClashing}
 
--- 1 where a task is failed, else 0.
+-- 1 if a task is failed, else 0.
 abbrev pub status_of : List (Option Outcome) → ℕ
 status_of outcomes = if list_any is_failed outcomes then 1 else 0
 
--- The answer of a serial run: the status tells whether a task is failed, and the text spells the log of the run, one core
--- with a pair of tickets for each instance in turn, and the last memory.
+-- The answer of a serial run. The status tells whether a task is failed. The text spells the log of the run, on one
+-- core and with a pair of tickets for each instance in turn, and the last memory.
 pub record IsRan (b : BundleValue) (status : ℕ) (text : List ℕ) : Type 0 where
   pub run : AnswerValue
   pub serial : IsSerial b.program b.image run
@@ -30,7 +30,8 @@ IsSerialAnswer bytes status text = ToBundle IsRan bytes status text
 
 -- A map without a clash is run, and of another the first clash is told.
 abbrev pub IsRunOf : BundleValue → (status : ℕ) (text : List ℕ) → Type 0
-IsRunOf b status text = (IsAccepted b.program.map.tasks × IsRan b status text) ⊎ IsClashing b.program.map.tasks status text
+IsRunOf b status text =
+    (IsAccepted b.program.map.tasks × IsRan b status text) ⊎ IsClashing b.program.map.tasks status text
 
 -- `run` answers a bundle without a clash by its serial run, and another by its first clash.
 abbrev pub IsRunAnswer : (bytes : List ℕ) (status : ℕ) (text : List ℕ) → Type 0

@@ -3,7 +3,8 @@ use Rattle.std.specs.Prelude.{ℕ, List, codes}
 
 -- The line for words that name no command.
 abbrev pub usage_text : List ℕ
-usage_text = codes "usage: plural run --cores N [--order SEED] | serial | check | asm | dis | make SEED [--cores N] | verify\n"
+usage_text =
+    codes "usage: plural run --cores N [--order SEED] | serial | check | asm | dis | make SEED [--cores N] | verify\n"
 
 -- The line for an input that is too long.
 abbrev pub too_long_text : List ℕ

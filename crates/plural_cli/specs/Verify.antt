@@ -17,7 +17,7 @@ use Rattle.plural_output.specs.Rules.{Breaks}
 use Rattle.plural_output.specs.Value.{OutputValue, output_of}
 use Rattle.plural_output.specs.Answer.{IsOutput}
 use Rattle.plural_cli.specs.FaultLine.{bundle_fault_text, IsRefused}
-use Rattle.plural_cli.specs.Lines.{line_behind, IsFaulty}
+use Rattle.plural_cli.specs.Lines.{line_after, IsFaulty}
 use Rattle.plural_cli.specs.Check.{IsClashing}
 
 -- The line for a log that is legal, with so many entries.
@@ -53,7 +53,8 @@ read_of b lines = output_of b.program.map.tasks b.program.map.words lines
 
 -- The first clash of the map is told; or there is none, and the output is judged.
 abbrev pub IsVerdictOn : BundleValue → OutputValue → (status : ℕ) (text : List ℕ) → Type 0
-IsVerdictOn b o status text = (IsAccepted b.program.map.tasks × IsJudged b o status text) ⊎ IsClashing b.program.map.tasks status text
+IsVerdictOn b o status text =
+    (IsAccepted b.program.map.tasks × IsJudged b o status text) ⊎ IsClashing b.program.map.tasks status text
 
 -- Neither the bundle nor the output has a fault: the first clash is told, or the verdict.
 pub record IsReadWhole (b : BundleValue) (lines : List TextLine) (end : ℕ) (status : ℕ) (text : List ℕ) : Type 0 where
@@ -62,21 +63,25 @@ pub record IsReadWhole (b : BundleValue) (lines : List TextLine) (end : ℕ) (st
 
 -- The output has a fault: its first is told.
 abbrev pub IsFaultyOutput : BundleValue → (lines : List TextLine) (end : ℕ) (status : ℕ) (text : List ℕ) → Type 0
-IsFaultyOutput b lines end status text = IsRefused rank bundle_fault_text (Breaks b.program.map.tasks b.program.map.words) (closed lines end) status text
+IsFaultyOutput b lines end status text =
+    IsRefused rank bundle_fault_text (Breaks b.program.map.tasks b.program.map.words) (closed lines end) status text
 
 -- The answer to the output of a bundle's run: it is judged, or its first fault is told.
 abbrev pub IsOutputAnswer : BundleValue → (lines : List TextLine) (end : ℕ) (status : ℕ) (text : List ℕ) → Type 0
 IsOutputAnswer b lines end status text = IsReadWhole b lines end status text ⊎ IsFaultyOutput b lines end status text
 
--- An input of which the first part is a bundle: the output behind it is answered.
+-- An input of which the first part is a bundle: the output after it is answered.
 pub record IsBundleAndOutput (input bundle output : List TextLine) (end : ℕ) (status : ℕ) (text : List ℕ) : Type 0 where
   pub whole : IsBundle input bundle end
   pub answer : IsOutputAnswer (bundle_of bundle) output end status text
 
--- The lines up to the first `[end]` have a fault, which is told; or they are a bundle, and the output behind is judged.
+-- The lines up to the first `[end]` have a fault, which is told; or they are a bundle, and the output after it is
+-- judged.
 abbrev pub IsJointAnswer : (lines : List TextLine) (end : ℕ) (status : ℕ) (text : List ℕ) → Type 0
-IsJointAnswer lines end status text = IsFaulty lines (bundle_part lines) end status text ⊎ IsBundleAndOutput lines (bundle_part lines) (output_part lines) end status text
+IsJointAnswer lines end status text =
+    IsFaulty lines (bundle_part lines) end status text
+    ⊎ IsBundleAndOutput lines (bundle_part lines) (output_part lines) end status text
 
 -- The answer to an input is that to its content lines.
 abbrev pub IsVerifyAnswer : (bytes : List ℕ) (status : ℕ) (text : List ℕ) → Type 0
-IsVerifyAnswer bytes status text = IsJointAnswer (content_lines bytes) (line_behind bytes) status text
+IsVerifyAnswer bytes status text = IsJointAnswer (content_lines bytes) (line_after bytes) status text

@@ -1,7 +1,6 @@
 //! An answer of a command, and the line that tells a fault.
 
-ghost use Rattle.std.specs.Prelude.{◌≡◌, ◌++◌, IfOk};
-ghost use Rattle.std.specs.Fmt.{decimal};
+ghost use Rattle.std.specs.Prelude.{◌≡◌, IfOk};
 ghost use Rattle.plural_cli.specs.FaultLine.{fault_text};
 
 use plural_bytes::Memory;

@@ -1,6 +1,6 @@
 //! The command `asm`: kernel lines in, the words of their code out.
 
-ghost use Rattle.std.specs.Prelude.{◌≡◌, ◌≤◌, ◌⊎◌, ◌++◌, length, IfOk, OnOk};
+ghost use Rattle.std.specs.Prelude.{◌≡◌, ◌≤◌, ◌⊎◌, length, IfOk};
 ghost use Rattle.plural_cli.specs.FaultLine.{kind_text};
 ghost use Rattle.plural_cli.specs.Asm.{code_text, IsAsmAnswer};
 

@@ -1,10 +1,9 @@
 //! The command `check`: a bundle in, whether its map has a clash out.
 
-ghost use Rattle.std.specs.Prelude.{◌≡◌, ◌≢◌, ◌<◌, ◌≤◌, ◌++◌, List, length, take, sum_by, IfOk, OnOk, IfSome, MatchOption};
+ghost use Rattle.std.specs.Prelude.{◌≡◌, ◌<◌, ◌≤◌, length, sum_by, IfOk};
 ghost use Rattle.plural_map.specs.Value.{TaskValue};
-ghost use Rattle.plural_crew.specs.Clashes.{IsAccepted};
 ghost use Rattle.plural_cli.specs.Output.{IsTold};
-ghost use Rattle.plural_cli.specs.Check.{accepted_text, instance_text, clash_text, IsClashing, IsMapAnswer, IsCheckAnswer};
+ghost use Rattle.plural_cli.specs.Check.{accepted_text, instance_text, clash_text, IsClashAnswer, IsMapAnswer, IsCheckAnswer};
 
 use crate::answer::Answer;
 use crate::reading::{Reading, read};
@@ -72,9 +71,9 @@ fn clash_line(alloc: Global, map: &Map, clash: Clash) -> Result<Vec<u8>, Memory>
     Ok(text)
 }
 
-/// The answer that tells the first clash of a map, or nothing where it has none.
+/// The answer that tells the first clash of a map, or nothing if it has none.
 pub(crate) fn clash_answer(alloc: Global, map: &Map) -> Result<Option<Answer>, Memory>
-    ensures { IfOk result (λ o. MatchOption o (IsAccepted map.now.tasks) (λ a. IsClashing map.now.tasks a.status a.text.items)) }
+    ensures { IfOk result (IsClashAnswer map.now.tasks) }
 {
     match check(map, &reach(map), &needs(map)) {
         Ok(_) => Ok(None),

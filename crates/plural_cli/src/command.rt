@@ -1,6 +1,6 @@
 //! The words of a command line.
 
-ghost use Rattle.std.specs.Prelude.{◌≡◌, ◌∷◌, map, codes, bytes_eq, option_map};
+ghost use Rattle.std.specs.Prelude.{◌≡◌, map};
 ghost use Rattle.std.specs.String.{string_bytes};
 
 /// A command that reads an input.
@@ -16,7 +16,7 @@ pub enum Request {
     Asm,
     /// `dis`: disassembles words.
     Dis,
-    /// `verify`: judges the output of a run behind its bundle.
+    /// `verify`: judges the output of a run after its bundle.
     Verify,
 }
 
@@ -29,9 +29,10 @@ pub enum Command {
     Make { seed: u64 },
 }
 
-ghost use Rattle.plural_cli.specs.declared.command.Command.TheVariants.{Read};
-ghost use Rattle.plural_cli.specs.Command.{number_of, joined_cores, paired_cores, one_word, run_with, two_words, command_of};
+ghost use Rattle.plural_cli.specs.Given.{kept};
+ghost use Rattle.plural_cli.specs.Command.{number_of, request_of, run_with, make_with, name_alone, command_with, command_of};
 
+use crate::arguments::{Given, arguments, is_word};
 use plural_bytes::digits;
 
 /// The greatest number that a word may spell.
@@ -47,91 +48,98 @@ fn number_of(word: &[u8]) -> Option<u64>
     digits(word, 10, LARGEST).ok()
 }
 
-fn joined_cores(word: &String) -> Option<u64>
-    ensures { result ≡ joined_cores (string_bytes word.now) }
+/// `run`: no word of its own, and one core.
+fn run_with(given: Given<'_>) -> Option<Command>
+    ensures { let a = kept given.entry in result ≡ run_with a.words a.cores a.order }
 {
-    match word.as_bytes().strip_prefix(b"--cores=") {
-        Some(value) => number_of(value),
-        None => None,
+    match given {
+        Given {
+            word: None,
+            cores: Some(value),
+            order: None,
+        } => match number_of(value) {
+            Some(1) => Some(Command::Read(Request::Run)),
+            _ => None,
+        },
+        _ => None,
     }
 }
 
-fn is_word(word: &String, wanted: &str) -> bool
-    ensures { result ≡ bytes_eq (string_bytes word.now) wanted.now }
+/// `make`: its seed, and no option.
+fn make_with(given: Given<'_>) -> Option<Command>
+    ensures { let a = kept given.entry in result ≡ make_with a.words a.cores a.order }
 {
-    word.as_str() == wanted
-}
-
-fn paired_cores(option: &String, value: &String) -> Option<u64>
-    ensures { result ≡ paired_cores (string_bytes option.now) (string_bytes value.now) }
-{
-    if is_word(option, "--cores") {
-        number_of(value.as_bytes())
-    } else {
-        None
+    match given {
+        Given {
+            word: Some(seed),
+            cores: None,
+            order: None,
+        } => match number_of(seed) {
+            Some(seed) => Some(Command::Make { seed }),
+            None => None,
+        },
+        _ => None,
     }
 }
 
-fn one_word(word: &String) -> Option<Request>
-    ensures { result ≡ one_word (string_bytes word.now) }
+/// The request that a command's name asks for.
+fn request_of(name: &String) -> Option<Request>
+    ensures { result ≡ request_of (string_bytes name.now) }
 {
-    if is_word(word, "serial") {
+    if is_word(name, "serial") {
         Some(Request::Serial)
-    } else if is_word(word, "check") {
+    } else if is_word(name, "check") {
         Some(Request::Check)
-    } else if is_word(word, "asm") {
+    } else if is_word(name, "asm") {
         Some(Request::Asm)
-    } else if is_word(word, "dis") {
+    } else if is_word(name, "dis") {
         Some(Request::Dis)
-    } else if is_word(word, "verify") {
+    } else if is_word(name, "verify") {
         Some(Request::Verify)
     } else {
         None
     }
 }
 
-/// The command of one word.
-fn reading(word: &String) -> Option<Command>
-    ensures { result ≡ option_map (λ r. Read r) (one_word (string_bytes word.now)) }
+/// Each other command: its name alone.
+fn name_alone(name: &String, given: Given<'_>) -> Option<Command>
+    ensures { let a = kept given.entry in result ≡ name_alone (string_bytes name.now) a.words a.cores a.order }
 {
-    match one_word(word) {
-        Some(request) => Some(Command::Read(request)),
-        None => None,
-    }
-}
-
-/// `run` with the value of `--cores`.
-fn run_with(word: &String, cores: Option<u64>) -> Option<Command>
-    ensures { result ≡ run_with (string_bytes word.now) cores }
-{
-    match cores {
-        Some(1) if is_word(word, "run") => Some(Command::Read(Request::Run)),
+    match given {
+        Given {
+            word: None,
+            cores: None,
+            order: None,
+        } => match request_of(name) {
+            Some(request) => Some(Command::Read(request)),
+            None => None,
+        },
         _ => None,
     }
 }
 
-/// The command of two words.
-fn two_words(word: &String, argument: &String) -> Option<Command>
-    ensures { result ≡ two_words (string_bytes word.now) (string_bytes argument.now) }
+/// The command of a name with these arguments.
+fn command_with(name: &String, given: Given<'_>) -> Option<Command>
+    ensures { result ≡ command_with (string_bytes name.now) (kept given.entry) }
 {
-    if is_word(word, "make") {
-        match number_of(argument.as_bytes()) {
-            Some(seed) => Some(Command::Make { seed }),
-            None => None,
-        }
+    if is_word(name, "run") {
+        run_with(given)
+    } else if is_word(name, "make") {
+        make_with(given)
     } else {
-        run_with(word, joined_cores(argument))
+        name_alone(name, given)
     }
 }
 
-/// The command that the words name, if they name one. Takes no memory.
+/// The command that the words ask for, if they ask for one. Takes no memory.
 pub(crate) fn command_of(words: &[String]) -> Option<Command>
     ensures { result ≡ command_of (map string_bytes words.now) }
 {
     match words {
-        [word] => reading(word),
-        [word, argument] => two_words(word, argument),
-        [word, option, value] => run_with(word, paired_cores(option, value)),
-        _ => None,
+        [name, rest @ ..] => match arguments(rest) {
+            Some(given) => command_with(name, given),
+            None => None,
+        },
+        [] => None,
     }
 }

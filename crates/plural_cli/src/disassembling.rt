@@ -10,7 +10,7 @@ use plural_bytes::{Line, Memory, split};
 use plural_image::word_of;
 use std::alloc::Global;
 
-/// Puts the assembler line of a word behind the text.
+/// Puts the assembler line of a word after the text.
 fn put_word(alloc: Global, text: &mut Vec<u8>, word: u32) -> Result<(), Memory>
     ensures { OnOk result (text.new.items ≡ text.old.items ++ word_line word) }
 {

@@ -1,8 +1,8 @@
-ghost use Rattle.std.specs.Prelude.{◌≡◌, ◌≢◌, ◌≤◌, List, length, IfOk, IfSome};
+ghost use Rattle.std.specs.Prelude.{◌≡◌, ◌≢◌, ◌≤◌, length, IfOk};
 ghost use Rattle.std.specs.Result.{IsErrOf};
 ghost use Rattle.std.specs.Io.KnownBytes.{IsAtEnd};
 ghost use Rattle.plural_bytes.specs.Causes.{Rose};
-ghost use Rattle.plural_cli.specs.Output.{limit_of, too_long_of, Answers, IsAnswer, IsTold};
+ghost use Rattle.plural_cli.specs.Output.{limit_of, too_long_of, Answers, AnswersHeld, ReadsToEnd, IsTold};
 
 use crate::answer::{Answer, refused};
 use crate::assembling::asm_answer;
@@ -72,10 +72,10 @@ pub(crate) fn read_answer<S: Source>(
     request: Request,
     source: &mut S,
 ) -> Result<Answer, Missing>
-    ensures answer { IfOk result (λ a. IfSome (S.left source.old) (λ bytes. IsAnswer request bytes a.status a.text.items)) }
+    ensures answer { IfOk result (λ a. AnswersHeld request (S.left source.old) a.status a.text.items) }
     ensures told { IfOk result (λ a. IsTold a.status) }
     ensures end { IfOk result (λ a. a.status ≢ 3 → IsAtEnd (S.left source.new)) }
-    ensures short_end { IfOk result (λ a. IfSome (S.left source.old) (λ bytes. length bytes ≤ limit_of request → IsAtEnd (S.left source.new))) }
+    ensures short_end { IfOk result (λ a. ReadsToEnd request (S.left source.old) (S.left source.new)) }
     ensures fault { IsErrOf result Missing.Input → Rose (S.faults source.old) (S.faults source.new) }
 {
     match read_all(alloc, source, limit_of(request)) {

@@ -10,6 +10,7 @@
 #![tactic(auto)]
 
 mod answer;
+mod arguments;
 mod assembling;
 mod checking;
 mod command;

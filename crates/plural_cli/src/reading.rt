@@ -1,13 +1,9 @@
 //! An input that has to be a bundle.
 
-ghost use Rattle.std.specs.Prelude.{◌≡◌, ◌≤◌, ◌%◌, ℕ, List, length, IfOk};
-ghost use Rattle.plural_bytes.specs.Lines.{TextLine, content_lines};
+ghost use Rattle.std.specs.Prelude.{◌≡◌, ◌≤◌, length, IfOk};
 ghost use Rattle.plural_bytes.specs.Spelled.{text_lines};
-ghost use Rattle.plural_bundle.specs.Value.{bundle_of};
-ghost use Rattle.plural_bundle.specs.Answer.{IsBundle};
 ghost use Rattle.plural_cli.specs.FaultLine.{bundle_fault_text, fault_text};
-ghost use Rattle.plural_cli.specs.Lines.{IsFaulty, line_behind};
-ghost use Rattle.plural_cli.specs.Reading.{IsReading};
+ghost use Rattle.plural_cli.specs.Reading.{IsReading, IsReadingOf};
 
 use crate::answer::{Answer, fault_answer};
 use plural_bundle::{Bundle, BundleError, Fault, read_bundle};
@@ -51,7 +47,7 @@ pub(crate) fn bundle_fault(alloc: Global, line: u32, fault: Fault) -> Result<Ans
     fault_answer(alloc, line, &word)
 }
 
-/// What content lines of an input are, where `end` is the number of the line behind the input's last.
+/// What content lines of an input are. `end` is the number of the line after the input's last.
 pub(crate) fn read_lines<'b>(
     alloc: Global,
     input: &[Line<'b>],
@@ -73,7 +69,7 @@ pub(crate) fn read_lines<'b>(
 /// What an input is that is not too long.
 pub(crate) fn read(alloc: Global, bytes: &[u8]) -> Result<Reading, Memory>
     requires { length bytes.now ≤ 16777216 }
-    ensures { IfOk result (λ r. IsReading (content_lines bytes.now) (content_lines bytes.now) (line_behind bytes.now) r) }
+    ensures { IfOk result (IsReadingOf bytes.now) }
 {
     let lines = split(alloc, bytes)?;
     let lines = lines.as_slice();

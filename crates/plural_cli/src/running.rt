@@ -1,6 +1,6 @@
 //! The commands `serial` and `run`: a bundle in, the log and the last memory of its serial run out.
 
-ghost use Rattle.std.specs.Prelude.{◌≡◌, ◌≢◌, ◌≤◌, ◌%◌, List, length, map, Some, IfOk};
+ghost use Rattle.std.specs.Prelude.{◌≡◌, ◌≤◌, ◌%◌, length, map, Some, IfOk};
 ghost use Rattle.std.specs.List.{list_any};
 ghost use Rattle.plural_map.specs.Decisions.{is_failed};
 ghost use Rattle.plural_cli.specs.Output.{IsTold};
@@ -29,7 +29,7 @@ fn any_failed(outcomes: &[Outcome]) -> bool
     outcomes.iter().any(|outcome| is_failed(*outcome))
 }
 
-/// 1 where a task is failed, else 0.
+/// 1 if a task is failed, else 0.
 fn status_of(outcomes: &[Outcome]) -> u8
     ensures { result ≡ status_of (map (λ o. Some o) outcomes.now) }
 {

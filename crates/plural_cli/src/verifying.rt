@@ -1,9 +1,7 @@
 //! The command `verify`: a bundle and the output of a run in, whether its log is legal out.
 
-ghost use Rattle.std.specs.Prelude.{◌≡◌, ◌<◌, ◌≤◌, ◌++◌, List, All, length, IfOk};
+ghost use Rattle.std.specs.Prelude.{◌≡◌, ◌<◌, ◌≤◌, length, IfOk};
 ghost use Rattle.plural_bytes.specs.Spelled.{text_lines};
-ghost use Rattle.plural_map.specs.Value.{TaskValue};
-ghost use Rattle.plural_bundle.specs.Value.{BundleValue};
 ghost use Rattle.plural_cli.specs.Output.{IsTold};
 ghost use Rattle.plural_cli.specs.Verify.{verdict_status, verdict_text, IsJudged, IsVerdictOn, IsOutputAnswer, IsJointAnswer, IsVerifyAnswer};
 
@@ -84,7 +82,7 @@ fn checked_and_judged(alloc: Global, bundle: &Bundle, output: &Output) -> Result
     }
 }
 
-/// The answer to the lines of an output behind its bundle, of which `end` is the number of the line behind the last.
+/// The answer to the lines of an output after its bundle. `end` is the number of the line after the last.
 fn output_answer(
     alloc: Global,
     bundle: &Bundle,
@@ -103,7 +101,7 @@ fn output_answer(
     }
 }
 
-/// The answer to content lines of which `end` is the number of the line behind the last.
+/// The answer to content lines. `end` is the number of the line after the last.
 fn joint_answer(alloc: Global, lines: &[Line<'_>], end: u32) -> Result<Answer, Memory>
     requires { length lines.now ≤ 67108864 }
     ensures answer { IfOk result (λ a. IsJointAnswer (text_lines lines.now) end a.status a.text.items) }

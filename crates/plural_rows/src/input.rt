@@ -14,7 +14,7 @@ fn with_line(alloc: Global, text: &str, number: usize, other: &str) -> Result<St
     Ok(out)
 }
 
-/// The number of the line that a change of a row speaks of, and the line that stands there instead; none where `line` is
+/// The number of the line that a change of a row speaks of, and the line that stands there instead; none if `line` is
 /// no change.
 fn change_of(line: &str) -> Option<(usize, &str)> {
     let change = line.strip_prefix("% ")?;
@@ -48,7 +48,7 @@ pub(crate) fn spelled(alloc: Global, head: &str) -> Result<String, Memory> {
     Ok(out)
 }
 
-/// A text with the changes of a row, and nothing where it has none.
+/// A text with the changes of a row, and nothing if it has none.
 pub(crate) fn changed(alloc: Global, head: &str, text: &str) -> Result<Option<String>, Memory> {
     let mut out: Option<String> = None;
     for line in head.lines().skip(1) {

@@ -1,8 +1,8 @@
 //! Rows of the program: inputs, and what the one public call of `plural_cli` has to answer to each. They are read from
-//! standard input; a row that is answered otherwise is written as it was answered, and behind all how many rows there were.
-//! This crate's `stdin` holds the rows, and its `stdout` what has to be written of them. It ends with status 0 where
-//! each command was answered as its row wants and each change speaks of a line that is there, else with 1, or with 3, 5,
-//! 6 or 7 as `plural` does.
+//! standard input. A row that is answered otherwise is written as it was answered, and after all how many rows there
+//! were. This crate's `stdin` holds the rows, and its `stdout` what has to be written of them. It ends with status 0 if
+//! each command was answered as its row wants and each change speaks of a line that is there, else with 1, or with 3,
+//! 5, 6 or 7 as `plural` does.
 //!
 //! ```text
 //!                an empty line stands in front of each row

@@ -1,4 +1,4 @@
-//! The rows of a text, one behind the other.
+//! The rows of a text, one after another.
 
 use crate::input::{changed, lost_changes, spelled};
 use plural_bytes::{MemSink, MemSource, Memory, put, put_number};
@@ -70,8 +70,7 @@ fn try_command<R: Threads + Sync>(
     Ok(())
 }
 
-/// Answers the commands of one row, and gives what it spells out, or nothing where it changes what was spelled out
-/// before.
+/// Answers the commands of one row, and gives what it spells out, or nothing if it changes what was spelled out before.
 fn try_row<R: Threads + Sync>(
     rt: &R,
     alloc: Global,

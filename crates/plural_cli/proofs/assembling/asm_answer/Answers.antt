@@ -1,5 +1,5 @@
 use Rattle.std.proofs.Common.{length, ap, arith}
-use Rattle.plural_cli.proofs.Listed.{length-lines}
+use Rattle.plural_cli.proofs.LineCounts.{length-lines}
 use Rattle.plural_cli.proofs.assembling.asm_answer.Goals as goal
 
 pub assemble-requires : goal.assemble-requires

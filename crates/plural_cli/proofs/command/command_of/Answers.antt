@@ -1,6 +1,6 @@
 use Rattle.std.specs.String.{string_bytes}
-use Rattle.plural_cli.proofs.Commands.{many_words}
+use Rattle.plural_cli.proofs.CommandWords.{none_named}
 use Rattle.plural_cli.proofs.command.command_of.Goals as goal
 
-pub returns-in_default-2 : goal.returns-in_default-2
-returns-in_default-2 c = many_words string_bytes c.args.words.now c.in_default.len_at_least
+pub returns-in-None : goal.returns-in-None
+returns-in-None c = none_named string_bytes c.args.words.now c.name-item.result c.in-len1-up.len_at_least c.name-item.is c.in-None.ensures

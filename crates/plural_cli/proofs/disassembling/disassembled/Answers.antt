@@ -1,6 +1,6 @@
 use Rattle.std.proofs.Common.{inr, arith}
 use Rattle.std.proofs.lemmas.Result.{IfOk-weaker}
-use Rattle.plural_cli.proofs.Worded.{form_first, count_first, words_more}
+use Rattle.plural_cli.proofs.WordLines.{form_first, count_first, words_more}
 use Rattle.plural_cli.proofs.disassembling.disassembled.Goals as goal
 
 pub returns-in-None-clause-answer : goal.returns-in-None-clause-answer

@@ -1,6 +1,6 @@
 use Rattle.std.proofs.Common.{ℕ, List, subst, arith}
 use Rattle.plural_cli.specs.Output.{Answers}
-use Rattle.plural_cli.proofs.Inputs.{whole_input}
+use Rattle.plural_cli.proofs.WholeInputs.{whole_input}
 use Rattle.plural_cli.proofs.input.read_answer.Goals as goal
 
 pub returns-in-Ok-answer_to-clause-answer : goal.returns-in-Ok-answer_to-clause-answer

@@ -1,4 +1,4 @@
-use Rattle.plural_cli.proofs.Logged.{entries_within}
+use Rattle.plural_cli.proofs.LogTasks.{entries_within}
 use Rattle.plural_cli.proofs.running.ran.Goals as goal
 
 pub print_output-requires-clause-tasks : goal.print_output-requires-clause-tasks

@@ -6,6 +6,7 @@ use Rattle.plural_serial.specs.declared.record_.Record.{Record}
 use Rattle.plural_trace.specs.declared.entry.Entry.{Entry}
 use Rattle.plural_trace.specs.SerialLog.{serial_entry, serial_entries}
 
+-- The entries of a serial log are of tasks of the map if its records are.
 pub entries_within : (n i : ℕ) (rs : List Record) → All (λ (r : Record). r.t < n) rs → All (λ (e : Entry). e.rec.t < n) (serial_entries i rs)
 entries_within n i [] h = All-nil (λ (e : Entry). e.rec.t < n)
 entries_within n i (r ∷ rs) h =

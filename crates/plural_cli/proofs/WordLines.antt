@@ -44,14 +44,13 @@ pub record Words (lines : List TextLine) (count : ℕ) (text : List ℕ) : Type 
   pub count_is : count ≡ length lines
   pub text_is : text ≡ dis_text lines
 
-pub words_nothing : (text : List ℕ) → text ≡ [] → Words [] 0 text
-words_nothing text e = record { faultless = faultless_nil dis_breaks; count_is = refl; text_is = e }
-
+-- A line that is no word, after lines without a fault, is the first fault, of form.
 pub form_first : (xs : List Line) (i : ℕ) (d : Line) (count : ℕ) (text : List ℕ) → i < length xs → Words (text_lines (take i xs)) count text
     → None ≡ word_token (get_or xs i d).text.now → IsFirstFault rank dis_breaks (text_lines xs) (get_or xs i d).number kinds.Form
 form_first xs i d count text l r shape =
     first_fault rank dis_breaks text_line xs i d kinds.Form l r.faultless (sym shape) (form_least (text_lines (take i xs)) (get_or xs i d).text.now)
 
+-- A word after 16,384 words is the first fault, of count.
 pub count_first : (xs : List Line) (i : ℕ) (d : Line) (count : ℕ) (text : List ℕ) (word : ℕ) → i < length xs → Words (text_lines (take i xs)) count text
     → Some word ≡ word_token (get_or xs i d).text.now → 16384 ≤ count → IsFirstFault rank dis_breaks (text_lines xs) (get_or xs i d).number kinds.Count
 count_first xs i d count text word l r shape h =
@@ -60,6 +59,7 @@ count_first xs i d count text word l r shape h =
 abbrev dis_line : TextLine → List ℕ
 dis_line l = option_map_or word_line (word_token l.1) []
 
+-- A word more is read, and its line put.
 pub words_more : (xs : List Line) (i : ℕ) (d : Line) (count : ℕ) (text new : List ℕ) (word : ℕ) → i < length xs → Words (text_lines (take i xs)) count text
     → Some word ≡ word_token (get_or xs i d).text.now → count < 16384 → new ≡ text ++ word_line word → Words (text_lines (take (i + 1) xs)) (count + 1) new
 words_more xs i d count text new word l r shape h e =
