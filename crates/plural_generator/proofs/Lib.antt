@@ -1,4 +1,4 @@
-pub mod Drawn
-pub mod Mapped
-pub mod Accepted
-pub mod Reread
+pub mod ImageWords
+pub mod MapLimits
+pub mod NoClash
+pub mod MapRoundTrip

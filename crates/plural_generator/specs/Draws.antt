@@ -1,4 +1,4 @@
--- The image of the large filter bundle, from the words that the generator of its seed gives one after the other.
+-- The image of the large filter bundle, from the words that the generator of its seed gives one after another.
 use Rattle.std.specs.Prelude.{ℕ, ◌+◌, ◌-◌, ◌%◌, ◌&&◌, ◌==◌, List, map, nat_lt, nat_le, if◌then◌else◌}
 use Rattle.std.specs.List.{range_with_len}
 use Rattle.rand_core.specs.Pcg32Seed.{pcg32_seed}
@@ -13,9 +13,9 @@ generator_of seed = pcg32_of_seed (pcg32_seed 16 seed)
 unfoldable pub drawn : Lcg → ℕ → ℕ
 drawn g i = (pcg32 (advance 64 multiplier_64 i g)).0
 
--- Word i of the image. Words 0 to 16,398 are samples below 4,096, by the words drawn at places 0 to 16,398; words 16,400
--- to 16,415 are taps from 1 to 16, by those at places 16,399 to 16,414; word 32,810 is the limit below 1,048,576, by
--- that at place 16,415; all others are 0.
+-- Word i of the image. Words 0 to 16,398 are samples below 4,096, by the words drawn at places 0 to 16,398. Words
+-- 16,400 to 16,415 are taps from 1 to 16, by those at places 16,399 to 16,414. Word 32,810 is the limit below
+-- 1,048,576, by that at place 16,415. All others are 0.
 abbrev pub made_word : Lcg → ℕ → ℕ
 made_word g i =
     if nat_lt i 16399 then drawn g i % 4096

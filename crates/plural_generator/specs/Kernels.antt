@@ -1,5 +1,5 @@
--- The kernel lines of the large filter bundle. In them 65600, 65664, 131200, 131236 and 131244 are addresses in bytes: of
--- the taps, the outputs, the greatest outputs, and the words of the two branches.
+-- The kernel lines of the large filter bundle. In them 65600, 65664, 131200, 131236 and 131244 are addresses in bytes:
+-- of the taps, the outputs, the greatest outputs, and the words of the two branches.
 use Rattle.std.specs.Prelude.{ℕ, List, [], ◌∷◌, ◌++◌, codes, flat_map}
 
 -- Each line with its LF.

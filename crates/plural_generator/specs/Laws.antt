@@ -11,5 +11,5 @@ abbrev pub MadeAccepted : Type 0
 MadeAccepted = IsAccepted made_map.tasks
 
 -- The map lines of the text, read again, spell the map.
-abbrev pub MapAgain : Type 0
-MapAgain = map_of (content_lines (map_text made_map)) ≡ made_map
+abbrev pub MapRoundTrip : Type 0
+MapRoundTrip = map_of (content_lines (map_text made_map)) ≡ made_map

@@ -1,5 +1,5 @@
--- The map of the large filter bundle: a filter of 1,024 instances, its greatest outputs, the best of these, two branches
--- by whether the best reaches a limit, and what is done behind them. It doesn't depend on the seed.
+-- The map of the large filter bundle: a filter of 1,024 instances, its greatest outputs, the best of these, two
+-- branches by whether the best reaches a limit, and what is done after them. It doesn't depend on the seed.
 use Rattle.std.specs.Prelude.{ℕ, true, false, List, [], ◌∷◌, Some, codes}
 use Rattle.plural_regions.specs.declared.region.Region.{Region}
 use Rattle.plural_regions.specs.declared.region.Mode.TheVariants.{Read, Write}
@@ -23,11 +23,29 @@ after t w = record { task = t; when = w }
 
 -- A task of this many instances, which begin at the label of the task's own name.
 abbrev pub dup_task : List ℕ → (quota budget : ℕ) → List Dep → List Region → TaskValue
-dup_task n quota budget deps regions = record { name = n; dup = true; quota = quota; entry = n; budget = budget; some = false; deps = deps; regions = regions }
+dup_task n quota budget deps regions = record {
+  name = n;
+  dup = true;
+  quota = quota;
+  entry = n;
+  budget = budget;
+  some = false;
+  deps = deps;
+  regions = regions;
+}
 
 -- A task of one instance, which begins at the label of the task's own name.
 abbrev pub regular_task : List ℕ → (budget : ℕ) → List Dep → List Region → TaskValue
-regular_task n budget deps regions = record { name = n; dup = false; quota = 1; entry = n; budget = budget; some = false; deps = deps; regions = regions }
+regular_task n budget deps regions = record {
+  name = n;
+  dup = false;
+  quota = 1;
+  entry = n;
+  budget = budget;
+  some = false;
+  deps = deps;
+  regions = regions;
+}
 
 -- The filter, task 0: each instance reads its 31 samples and the 16 taps, and writes its 16 outputs.
 abbrev pub fir_task : TaskValue
@@ -40,7 +58,8 @@ top_task = dup_task (codes "top") 8 100000 (after 0 Any ∷ []) (reads 16416 204
 -- The best, task 2: it reads the greatest of the eight and the limit, and writes the best. Its code is whether the best
 -- reaches the limit.
 abbrev pub best_task : TaskValue
-best_task = regular_task (codes "best") 1000 (after 1 Any ∷ []) (reads 32800 0 8 ∷ reads 32810 0 1 ∷ writes 32808 0 1 ∷ [])
+best_task =
+    regular_task (codes "best") 1000 (after 1 Any ∷ []) (reads 32800 0 8 ∷ reads 32810 0 1 ∷ writes 32808 0 1 ∷ [])
 
 -- The branch for a best that reaches the limit, task 3.
 abbrev pub loud_task : TaskValue
@@ -50,9 +69,11 @@ loud_task = regular_task (codes "loud") 100 (after 2 Code1 ∷ []) (writes 32809
 abbrev pub quiet_task : TaskValue
 quiet_task = regular_task (codes "quiet") 100 (after 2 Code0 ∷ []) (writes 32811 0 1 ∷ [])
 
--- What is done behind both branches, task 5: it reads what each of them wrote.
+-- What is done after both branches, task 5: it reads what each of them wrote.
 abbrev pub done_task : TaskValue
-done_task = regular_task (codes "done") 100 (after 3 Any ∷ after 4 Any ∷ []) (reads 32809 0 1 ∷ reads 32811 0 1 ∷ writes 32812 0 1 ∷ [])
+done_task =
+    regular_task (codes "done") 100 (after 3 Any ∷ after 4 Any ∷ [])
+    (reads 32809 0 1 ∷ reads 32811 0 1 ∷ writes 32812 0 1 ∷ [])
 
 -- The tasks, by their numbers.
 abbrev pub made_tasks : List TaskValue

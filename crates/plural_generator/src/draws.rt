@@ -1,5 +1,5 @@
 //! The image, drawn word by word.
-ghost use Rattle.std.specs.Prelude.{◌≡◌, ◌<◌, ◌≤◌, length, IfOk};
+ghost use Rattle.std.specs.Prelude.{◌≡◌, ◌<◌, length, IfOk};
 ghost use Rattle.plural_generator.specs.Draws.{made_image};
 ghost use Rattle.plural_generator.specs.Places.{word_by, generator_after};
 
@@ -12,7 +12,7 @@ use std::alloc::Global;
 /// How many words the memory has.
 const WORDS: u32 = 32_816;
 
-/// How many words at the memory's front are samples.
+/// How many words at the start of the memory are samples.
 const SAMPLES: u32 = 16_399;
 
 /// The first word of the taps.
@@ -24,7 +24,7 @@ const TAP_COUNT: u32 = 16;
 /// The word that has the limit.
 const LIMIT: u32 = 32_810;
 
-/// Word `i` of the image, by the generator's next word where it is drawn.
+/// Word `i` of the image, by the generator's next word if it is drawn.
 fn next_word(rng: &mut Pcg32, i: u32) -> u32
     ensures word { result ≡ word_by rng.old i }
     ensures rest { rng.new ≡ generator_after rng.old i }

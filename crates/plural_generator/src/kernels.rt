@@ -109,7 +109,7 @@ ecall
 "
 }
 
-/// Puts the kernel lines behind the text.
+/// Puts the kernel lines after the text.
 pub(crate) fn put_kernels(out: &mut Vec<u8>) -> Result<(), Memory>
     ensures { OnOk result (out.new.items ≡ out.old.items ++ kernel_text) }
 {

@@ -1,5 +1,5 @@
 //! What holds of every bundle that is made.
-ghost use Rattle.plural_generator.specs.Laws.{MadeAccepted, MapAgain};
+ghost use Rattle.plural_generator.specs.Laws.{MadeAccepted, MapRoundTrip};
 
 /// The map of a made bundle has no clash, whatever the seed.
 pub fn made_accepted()
@@ -7,6 +7,6 @@ pub fn made_accepted()
 {}
 
 /// The map lines of a made bundle spell its map.
-pub fn map_again()
-    ensures { MapAgain }
+pub fn map_round_trip()
+    ensures { MapRoundTrip }
 {}

@@ -1,5 +1,5 @@
 //! The tasks and their map.
-ghost use Rattle.std.specs.Prelude.{◌≡◌, ◌≤◌, true, [], ◌∷◌, codes, IfOk};
+ghost use Rattle.std.specs.Prelude.{◌≡◌, ◌≤◌, true, [], ◌∷◌, IfOk};
 ghost use Rattle.plural_base.specs.Names.{is_name};
 ghost use Rattle.plural_generator.specs.Tasks.{reads, writes, after, fir_task, top_task, best_task, loud_task, quiet_task, done_task, made_tasks, made_map};
 

@@ -22,10 +22,14 @@ made_program = program_with made_map (code_of made_kernels made_kernels) (labels
 abbrev pub made_bundle : ℕ → BundleValue
 made_bundle seed = record { program = made_program; image = made_image seed }
 
--- The content lines of the text of a seed are a bundle of the input that they are, for every seed, and spell the bundle
--- of that seed.
+-- The content lines of the text of a seed.
+abbrev pub made_lines : ℕ → List TextLine
+made_lines seed = content_lines (made_text seed)
+
+-- The lines of a seed are a bundle of the input that they are, for every seed, and spell the bundle of that seed.
 abbrev pub MadeIsRead : Type 0
-MadeIsRead = (seed end : ℕ) → IsBundle (content_lines (made_text seed)) (content_lines (made_text seed)) end × (bundle_of (content_lines (made_text seed)) ≡ made_bundle seed)
+MadeIsRead =
+    (seed end : ℕ) → IsBundle (made_lines seed) (made_lines seed) end × (bundle_of (made_lines seed) ≡ made_bundle seed)
 
 -- The code of a made bundle has 78 words, and its tasks begin at these bytes of it, by their numbers.
 abbrev pub MadeCode : Type 0

@@ -6,7 +6,7 @@ use Rattle.rand_pcg.specs.Pcg.{multiplier_64}
 use Rattle.rand_pcg.proofs.LcgLemmas.{advance_zero}
 use Rattle.plural_generator.specs.Draws.{generator_of, made_word, made_image}
 use Rattle.plural_generator.specs.Places.{word_by, generator_after}
-use Rattle.plural_generator.proofs.Drawn.{generator_next, words_more}
+use Rattle.plural_generator.proofs.ImageWords.{generator_next, words_more}
 use Rattle.plural_generator.proofs.draws.image.Goals as goal
 
 pub loop-i-init : goal.loop-i-init

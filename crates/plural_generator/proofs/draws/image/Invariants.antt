@@ -2,7 +2,7 @@ use Rattle.std.proofs.Common.{◌≡◌}
 use Rattle.std.specs.Prelude.{map}
 use Rattle.std.specs.List.{range_with_len}
 use Rattle.plural_generator.specs.Draws.{generator_of, made_word}
-use Rattle.plural_generator.proofs.Drawn.{generator_at}
+use Rattle.plural_generator.proofs.ImageWords.{generator_at}
 use Rattle.plural_generator.proofs.draws.image.Given as goal
 
 abbrev pub invariant-loop-i : goal.invariant-loop-i

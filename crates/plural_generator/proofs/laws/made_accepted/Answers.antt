@@ -1,4 +1,4 @@
-use Rattle.plural_generator.proofs.Accepted.{made_accepted}
+use Rattle.plural_generator.proofs.NoClash.{made_accepted}
 use Rattle.plural_generator.proofs.laws.made_accepted.Goals as goal
 
 pub returns : goal.returns

@@ -1,6 +1,6 @@
 use Rattle.std.proofs.Common.{sym, ◌∙◌, subst}
 use Rattle.plural_map.specs.Limits.{IsMap}
-use Rattle.plural_generator.proofs.Mapped.{made_within, parts_made}
+use Rattle.plural_generator.proofs.MapLimits.{made_within, parts_made}
 use Rattle.plural_generator.proofs.tasks.map.Goals as goal
 
 pub of-requires : goal.of-requires

@@ -1,4 +1,4 @@
-use Rattle.plural_made.proofs.Sized.{made_code}
+use Rattle.plural_made.proofs.CodeSize.{made_code}
 use Rattle.plural_made.proofs.laws.made_code.Goals as goal
 
 pub returns : goal.returns

@@ -1,4 +1,4 @@
-use Rattle.plural_made.proofs.Made.{made_is_read}
+use Rattle.plural_made.proofs.BundleLines.{made_is_read}
 use Rattle.plural_made.proofs.laws.made_is_read.Goals as goal
 
 pub returns : goal.returns

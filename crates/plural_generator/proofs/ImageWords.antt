@@ -18,7 +18,7 @@ draws_before i = if nat_lt i 16400 then i else if nat_lt i 16416 then i - 1 else
 abbrev pub generator_at : Lcg → ℕ → Lcg
 generator_at g i = advance 64 multiplier_64 (draws_before i) g
 
--- One step behind n steps is n + 1 steps.
+-- One step after n steps is n + 1 steps.
 pub one_step_more : (n : ℕ) (g : Lcg) → next 64 multiplier_64 (advance 64 multiplier_64 n g) ≡ advance 64 multiplier_64 (n + 1) g
 one_step_more zero g = ap (next 64 multiplier_64) (advance_zero 64 multiplier_64 g) ∙ sym (sym (advance_more 64 multiplier_64 0 g) ∙ advance_zero 64 multiplier_64 (next 64 multiplier_64 g))
 one_step_more (suc n) g =
@@ -36,8 +36,8 @@ before_taps i low high = rw (le-ltb i 16400 low, lt-ltb i 16416 high) refl
 before_limit : (i : ℕ) → 16416 ≤ i → i < 32811 → draws_before i ≡ 16415
 before_limit i low high = rw (le-ltb i 16400 (omega arith), le-ltb i 16416 low, lt-ltb i 32811 high) refl
 
-behind_limit : (i : ℕ) → 32811 ≤ i → draws_before i ≡ 16416
-behind_limit i low = rw (le-ltb i 16400 (omega arith), le-ltb i 16416 (omega arith), le-ltb i 32811 low) refl
+after_limit : (i : ℕ) → 32811 ≤ i → draws_before i ≡ 16416
+after_limit i low = rw (le-ltb i 16400 (omega arith), le-ltb i 16416 (omega arith), le-ltb i 32811 low) refl
 
 -- ---- one word
 
@@ -64,7 +64,7 @@ word_here g i = by_samples (cases_lt i 16399)
     by_samples (inl h) = rw (before_samples i (omega arith), lt-ltb i 16399 h) refl
     by_samples (inr h) = by_gap h (cases_eq i 16399)
 
--- ---- the generator behind one word
+-- ---- the generator after one word
 
 after_sample : (h : Lcg) (i : ℕ) → i < 16399 → generator_after h i ≡ next 64 multiplier_64 h
 after_sample h i l = rw (lt-ltb i 16399 l) refl
@@ -80,7 +80,7 @@ moved : (g : Lcg) (i n : ℕ) → draws_before i ≡ n → draws_before (i + 1) 
 moved g i n a b e =
     e ∙ ap (λ (k : ℕ). next 64 multiplier_64 (advance 64 multiplier_64 k g)) a ∙ one_step_more n g ∙ sym (ap (λ (k : ℕ). advance 64 multiplier_64 k g) b)
 
--- A word that isn't drawn leaves it where it is.
+-- A word that isn't drawn leaves the generator as it is.
 stayed : (g : Lcg) (i n : ℕ) → draws_before i ≡ n → draws_before (i + 1) ≡ n → generator_after (generator_at g i) i ≡ generator_at g i → generator_after (generator_at g i) i ≡ generator_at g (i + 1)
 stayed g i n a b e = e ∙ ap (λ (k : ℕ). advance 64 multiplier_64 k g) (a ∙ sym b)
 
@@ -92,7 +92,7 @@ generator_next g i = by_samples (cases_lt i 16399)
     by_end low n (inl h) = stayed g i 16415 (before_limit i low (omega arith)) (before_limit (i + 1) (omega arith) (omega arith)) (after_zero (generator_at g i) i low n)
     by_end low n (inr h) =
         let above : 32811 ≤ i = grind arith in
-        stayed g i 16416 (behind_limit i above) (behind_limit (i + 1) (omega arith)) (after_zero (generator_at g i) i low n)
+        stayed g i 16416 (after_limit i above) (after_limit (i + 1) (omega arith)) (after_zero (generator_at g i) i low n)
 
     by_limit : 16416 ≤ i → (i ≡ 32810) ⊎ (i ≡ 32810 → ⊥) → generator_after (generator_at g i) i ≡ generator_at g (i + 1)
     by_limit low (inl e) = moved g i 16415 (rw e refl) (rw e refl) (rw e refl)

@@ -6,7 +6,7 @@ use Rattle.std.proofs.lemmas.List.{append-nil, map-append}
 use Rattle.std.proofs.lemmas.List.Elements.{filter-append}
 use Rattle.plural_bytes.specs.Lines.{TextLine, is_line_end, pieces, content, has_text, content_from, content_lines}
 use Rattle.plural_bundle.specs.Laws.{Parts, lines_of}
-use Rattle.plural_made.proofs.Renumbered.{lines_from}
+use Rattle.plural_made.proofs.LineNumbers.{lines_from}
 
 -- ---- lines of a text that others follow
 
@@ -28,17 +28,21 @@ lines : (text : List ℕ) → Lines text
 lines [] = record { first = []; more = []; are = λ rest. refl }
 lines (c ∷ cs) = one_more c cs (is_line_end c) refl (lines cs)
 
+-- A text with an LF at its end ends its lines.
 pub ends_with : (text : List ℕ) → EndsLine (text ++ 10 ∷ [])
 ends_with text rest =
     let l = lines text in
     ap pieces (append_assoc text (10 ∷ []) rest) ∙ l.are rest ∙ ap (λ x. x ++ pieces rest) (sym (l.are [] ∙ append-nil (l.first ∷ l.more)))
 
+-- The empty text ends its lines.
 pub ends_nothing : EndsLine []
 ends_nothing rest = refl
 
-pub ends_both : (s t : List ℕ) → EndsLine s → EndsLine t → EndsLine (s ++ t)
+-- Two texts that end their lines do so together.
+ends_both : (s t : List ℕ) → EndsLine s → EndsLine t → EndsLine (s ++ t)
 ends_both s t e f rest = ap pieces (append_assoc s t rest) ∙ e (t ++ rest) ∙ ap (λ x. pieces s ++ x) (f rest) ∙ sym (append_assoc (pieces s) (pieces t) (pieces rest)) ∙ ap (λ x. x ++ pieces rest) (sym (e t))
 
+-- Texts that end their lines do so all together.
 pub ends_each : {A : Type 0} (f : A → List ℕ) (xs : List A) → ((x : A) → EndsLine (f x)) → EndsLine (flat_map f xs)
 ends_each f [] e = ends_nothing
 ends_each f (x ∷ xs) e = ends_both (f x) (flat_map f xs) (e x) (ends_each f xs e)
@@ -94,7 +98,7 @@ map_cut : (next : ℕ) (maps rest : List ℕ) → EndsLine maps → next ≡ 3 +
 map_cut next maps rest e h =
     ap (λ x. (1, codes "plural 1") ∷ (2, codes "[map]") ∷ x) (lines_both 3 maps rest e) ∙ ap (λ m. (1, codes "plural 1") ∷ (2, codes "[map]") ∷ (lines_from 3 maps ++ lines_from m rest)) (sym h)
 
--- The content lines of the text are the lines of its parts: each header stands behind the section before it.
+-- The content lines of the text are the lines of its parts: each header stands after the section before it.
 pub cut : (maps kernels words : List ℕ) (at_kernels at_image at_end : ℕ) → EndsLine maps → EndsLine kernels → EndsLine words
     → at_kernels ≡ 3 + length (pieces maps) → at_image ≡ at_kernels + 1 + length (pieces kernels) → at_end ≡ at_image + 1 + length (pieces words)
     → content_lines (text_with maps kernels words) ≡ lines_of (parts_with maps kernels words at_kernels at_image at_end)

@@ -9,15 +9,16 @@ use Rattle.plural_asm.specs.Rules.{Breaks}
 use Rattle.plural_generator.specs.Kernels.{fir_text, top_text, best_text, loud_text, quiet_text, done_text, kernel_text}
 use Rattle.plural_bundle.specs.Sections.{closes}
 use Rattle.plural_bundle.specs.Laws.{Stay}
-use Rattle.plural_made.proofs.Renumbered.{lines_from}
-use Rattle.plural_made.proofs.Whole.{EndsLine}
-use Rattle.plural_made.proofs.Stays.{stay_by}
-use Rattle.plural_made.proofs.Walked.{is_faulty, taken, not_faulty}
+use Rattle.plural_made.proofs.LineNumbers.{lines_from}
+use Rattle.plural_made.proofs.TextLines.{EndsLine}
+use Rattle.plural_made.proofs.SectionLines.{stay_by}
+use Rattle.plural_made.proofs.KernelFaults.{is_faulty, taken, not_faulty}
 
 -- The kernel lines, of which the first has this number.
 abbrev pub kernels : ℕ → List TextLine
 kernels n = lines_from n kernel_text
 
+-- The kernel lines end with a line end.
 pub kernels_end : EndsLine kernel_text
 unfolding fir_text top_text best_text loud_text quiet_text done_text
 kernels_end rest = refl
@@ -26,6 +27,7 @@ none_closes : (n : ℕ) → list_all (λ l. not (closes l.1)) (kernels n) ≡ tr
 unfolding fir_text top_text best_text loud_text quiet_text done_text
 none_closes n = refl
 
+-- No kernel line closes the section.
 pub kernels_stay : (n : ℕ) → Stay (kernels n)
 kernels_stay n = stay_by (kernels n) (none_closes n)
 
@@ -33,6 +35,7 @@ kernels_fine : (n : ℕ) → is_faulty (taken (kernels n)) ≡ false
 unfolding fir_text top_text best_text loud_text quiet_text done_text
 kernels_fine n = refl
 
+-- The kernel lines have no fault.
 pub kernels_good : (n : ℕ) → IsFaultless (Breaks (kernels n)) (kernels n)
 kernels_good n = not_faulty (kernels n) (kernels_fine n)
 
@@ -41,6 +44,7 @@ abbrev pub kernel_labels : List (List ℕ)
 kernel_labels =
     codes "fir" ∷ codes "fo" ∷ codes "fi" ∷ codes "top" ∷ codes "tl" ∷ codes "ts" ∷ codes "best" ∷ codes "bl" ∷ codes "bs" ∷ codes "loud" ∷ codes "quiet" ∷ codes "done" ∷ []
 
+-- The labels of the kernel lines are these.
 pub labels_are : (n : ℕ) → names_of (kernels n) ≡ kernel_labels
 unfolding fir_text top_text best_text loud_text quiet_text done_text
 labels_are n = refl

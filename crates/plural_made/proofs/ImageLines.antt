@@ -10,8 +10,8 @@ use Rattle.plural_image.specs.Image.{Breaks, image_of}
 use Rattle.plural_image.specs.Print.{image_text}
 use Rattle.plural_image.proofs.Rows.{image_again}
 use Rattle.plural_generator.specs.Draws.{generator_of, drawn, made_word, made_image}
-use Rattle.plural_made.proofs.Renumbered as renumbered
-use Rattle.plural_made.proofs.Renumbered.{lines_from, lines_again, faultless_again, image_reads}
+use Rattle.plural_made.proofs.LineNumbers as renumbered
+use Rattle.plural_made.proofs.LineNumbers.{lines_from, lines_again, faultless_again, image_reads}
 
 -- ---- one word
 

@@ -16,5 +16,6 @@ entries_are : map (λ t. pc_of (labels_of made_kernels) t.entry) made_map.tasks 
 unfolding made_map fir_text top_text best_text loud_text quiet_text done_text
 entries_are = refl
 
+-- The code has 78 words, and the tasks begin at these bytes.
 pub made_code : MadeCode
 made_code = (code_length made_kernels made_kernels ∙ size_is, entries_are)

@@ -1,6 +1,8 @@
 -- The map of the large filter bundle is within all limits.
-use Rattle.std.proofs.Common.{◌≡◌, ◌≢◌, ℕ, ◌<◌, true, List, [], ◌∷◌, get_or, ap, refl, arith}
+use Rattle.std.proofs.Common.{◌≡◌, ◌≢◌, ℕ, ◌<◌, Bool, true, false, List, [], ◌∷◌, length, get_or, ap, refl, sym, ◌∙◌, arith}
+use Rattle.std.specs.Prelude.{◌&&◌, ◌||◌, ◌==◌, nat_le}
 use Rattle.std.specs.List.{All, AllPairs}
+use Rattle.std.proofs.lemmas.Bool.{and_parts, leb-true, eqb-true}
 use Rattle.std.proofs.lemmas.Bool.Decides.{nat_tests}
 use Rattle.std.proofs.lemmas.List.Elements.{All-nil, All-cons}
 use Rattle.std.proofs.lemmas.List.Kept.{AllPairs-cons}
@@ -50,89 +52,57 @@ quiet_inside k a h r = grind (arith, nat_tests)
 done_inside : (k a : ℕ) → k < 1 → may_read done_task.regions k a ≡ true → a < 32816
 done_inside k a h r = grind (arith, nat_tests)
 
+-- What is said of a task's numbers, as a test.
+abbrev fits : TaskValue → Bool
+fits t =
+    (nat_le 1 t.quota && nat_le t.quota 16384) && ((t.dup || t.quota == 1)
+    && ((nat_le 1 t.budget && nat_le t.budget 100000000) && (nat_le (length t.deps) 16 && nat_le (length t.regions) 8)))
+
+-- A task whose numbers pass the test, with such dependencies and regions, is within the limits.
+within : (t : TaskValue) → fits t ≡ true → All (λ (d : Dep). d.task < 6) t.deps → AllPairs (λ (d e : Dep). d.task ≢ e.task) t.deps
+    → ((k a : ℕ) → k < t.quota → may_read t.regions k a ≡ true → a < 32816) → IsTask 32816 made_tasks t
+within t h deps differ inside =
+    let quota = and_parts (nat_le 1 t.quota && nat_le t.quota 16384) _ h in
+    let kind = and_parts (t.dup || t.quota == 1) _ quota.1 in
+    let budget = and_parts (nat_le 1 t.budget && nat_le t.budget 100000000) _ kind.1 in
+    let counts = and_parts (nat_le (length t.deps) 16) (nat_le (length t.regions) 8) budget.1 in
+    let quotas = and_parts (nat_le 1 t.quota) (nat_le t.quota 16384) quota.0 in
+    let budgets = and_parts (nat_le 1 t.budget) (nat_le t.budget 100000000) budget.0 in
+    record {
+      quota_low = leb-true 1 t.quota quotas.0;
+      quota_high = leb-true t.quota 16384 quotas.1;
+      regular = λ n. by_kind n kind.0;
+      budget_low = leb-true 1 t.budget budgets.0;
+      budget_high = leb-true t.budget 100000000 budgets.1;
+      few_deps = leb-true (length t.deps) 16 counts.0;
+      deps_within = deps;
+      deps_differ = differ;
+      few_regions = leb-true (length t.regions) 8 counts.1;
+      inside = inside;
+    }
+  where
+    by_kind : t.dup ≡ false → (t.dup || t.quota == 1) ≡ true → t.quota ≡ 1
+    by_kind n e = eqb-true t.quota 1 (ap (λ b. b || t.quota == 1) (sym n) ∙ e)
+
 fir_within : IsTask 32816 made_tasks fir_task
-fir_within = record {
-  quota_low = omega arith;
-  quota_high = omega arith;
-  regular = λ h. cc;
-  budget_low = omega arith;
-  budget_high = omega arith;
-  few_deps = omega arith;
-  deps_within = All-nil (λ (d : Dep). d.task < 6);
-  deps_differ = no_deps_differ;
-  few_regions = omega arith;
-  inside = fir_inside;
-}
+fir_within = within fir_task refl (All-nil (λ (d : Dep). d.task < 6)) no_deps_differ fir_inside
 
 top_within : IsTask 32816 made_tasks top_task
-top_within = record {
-  quota_low = omega arith;
-  quota_high = omega arith;
-  regular = λ h. cc;
-  budget_low = omega arith;
-  budget_high = omega arith;
-  few_deps = omega arith;
-  deps_within = one_within (after 0 Any) (omega arith);
-  deps_differ = one_differs (after 0 Any);
-  few_regions = omega arith;
-  inside = top_inside;
-}
+top_within = within top_task refl (one_within (after 0 Any) (omega arith)) (one_differs (after 0 Any)) top_inside
 
 best_within : IsTask 32816 made_tasks best_task
-best_within = record {
-  quota_low = omega arith;
-  quota_high = omega arith;
-  regular = λ h. refl;
-  budget_low = omega arith;
-  budget_high = omega arith;
-  few_deps = omega arith;
-  deps_within = one_within (after 1 Any) (omega arith);
-  deps_differ = one_differs (after 1 Any);
-  few_regions = omega arith;
-  inside = best_inside;
-}
+best_within = within best_task refl (one_within (after 1 Any) (omega arith)) (one_differs (after 1 Any)) best_inside
 
 loud_within : IsTask 32816 made_tasks loud_task
-loud_within = record {
-  quota_low = omega arith;
-  quota_high = omega arith;
-  regular = λ h. refl;
-  budget_low = omega arith;
-  budget_high = omega arith;
-  few_deps = omega arith;
-  deps_within = one_within (after 2 Code1) (omega arith);
-  deps_differ = one_differs (after 2 Code1);
-  few_regions = omega arith;
-  inside = loud_inside;
-}
+loud_within = within loud_task refl (one_within (after 2 Code1) (omega arith)) (one_differs (after 2 Code1)) loud_inside
 
 quiet_within : IsTask 32816 made_tasks quiet_task
-quiet_within = record {
-  quota_low = omega arith;
-  quota_high = omega arith;
-  regular = λ h. refl;
-  budget_low = omega arith;
-  budget_high = omega arith;
-  few_deps = omega arith;
-  deps_within = one_within (after 2 Code0) (omega arith);
-  deps_differ = one_differs (after 2 Code0);
-  few_regions = omega arith;
-  inside = quiet_inside;
-}
+quiet_within = within quiet_task refl (one_within (after 2 Code0) (omega arith)) (one_differs (after 2 Code0)) quiet_inside
 
 done_within : IsTask 32816 made_tasks done_task
-done_within = record {
-  quota_low = omega arith;
-  quota_high = omega arith;
-  regular = λ h. refl;
-  budget_low = omega arith;
-  budget_high = omega arith;
-  few_deps = omega arith;
-  deps_within = two_within (after 3 Any) (after 4 Any) (omega arith) (omega arith);
-  deps_differ = two_differ (after 3 Any) (after 4 Any) (λ e. omega (arith, e));
-  few_regions = omega arith;
-  inside = done_inside;
-}
+done_within =
+    within done_task refl (two_within (after 3 Any) (after 4 Any) (omega arith) (omega arith))
+    (two_differ (after 3 Any) (after 4 Any) (λ e. omega (arith, e))) done_inside
 
 -- ---- the map
 

@@ -15,13 +15,13 @@ use Rattle.plural_bundle.specs.Value.{program_with, bundle_of}
 use Rattle.plural_bundle.specs.Laws.{AreGood, lines_of}
 use Rattle.plural_bundle.proofs.Parted.{parts_make_a_bundle}
 use Rattle.plural_made.specs.Laws.{made_kernels, made_bundle, MadeIsRead}
-use Rattle.plural_made.proofs.Renumbered.{lines_again}
-use Rattle.plural_made.proofs.Whole.{parts_with, cut}
-use Rattle.plural_made.proofs.Drawn.{images, images_read}
-use Rattle.plural_made.proofs.Stays.{image_stays, image_ends}
-use Rattle.plural_made.proofs.Spelled.{code_again, labels_again}
-use Rattle.plural_made.proofs.Kernels.{kernels, kernels_end, kernels_stay, kernels_good, labels_are}
-use Rattle.plural_made.proofs.Mapped.{maps, map_ends, map_stays, map_good, map_is, map_words}
+use Rattle.plural_made.proofs.LineNumbers.{lines_again}
+use Rattle.plural_made.proofs.TextLines.{parts_with, cut}
+use Rattle.plural_made.proofs.ImageLines.{images, images_read}
+use Rattle.plural_made.proofs.SectionLines.{image_stays, image_ends}
+use Rattle.plural_made.proofs.CodeWords.{code_again, labels_again}
+use Rattle.plural_made.proofs.KernelLines.{kernels, kernels_end, kernels_stay, kernels_good, labels_are}
+use Rattle.plural_made.proofs.MapLines.{maps, map_ends, map_stays, map_good, map_is, map_words}
 
 -- Its parts have no fault, whatever the numbers of the headers' lines are.
 good : (seed at_kernels at_image at_end : ℕ) → AreGood (parts_with (map_text made_map) kernel_text (image_text (made_image seed)) at_kernels at_image at_end)
@@ -35,7 +35,7 @@ good seed at_kernels at_image at_end = record {
   image_good = (images_read seed (at_image + 1) _ map_words).0;
 }
 
--- What they spell, where the kernel lines and the image lines begin with these numbers.
+-- What they spell, if the kernel lines and the image lines begin with these numbers.
 value : (seed n m : ℕ) → record { program = program_with (map_of maps) (code_of (kernels n) (kernels n)) (labels_of (kernels n)); image = image_of (map_of maps).words (images seed m) } ≡ made_bundle seed
 value seed n m =
     let same = lines_again n 1 kernel_text in
@@ -44,6 +44,7 @@ value seed n m =
     let image = (images_read seed m _ map_words).1 in
     λ i. record { program = program_with (map_is i) (code i) (labels i); image = image i }
 
+-- The lines of the text of each seed are a bundle, and spell the bundle of that seed.
 pub made_is_read : MadeIsRead
 made_is_read seed end =
     let image = image_text (made_image seed) in

@@ -186,6 +186,7 @@ tasks_accepted t k u l a h = by_order (cases_order t u)
     by_order (inl e) = same_task t k l a (subst (λ (v : ℕ). IsClash made_tasks t k v l a) (sym e) h)
     by_order (inr o) = different_tasks t k u l a o h
 
+-- The map of the large filter bundle has no clash.
 pub made_accepted : MadeAccepted
 unfolding made_map
 made_accepted = tasks_accepted

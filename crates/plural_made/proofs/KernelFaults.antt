@@ -17,18 +17,18 @@ use Rattle.plural_asm.specs.declared.object.AsmKind.TheVariants as kinds
 use Rattle.plural_asm.proofs.Placed.{place_after_push, place_of_push}
 use Rattle.plural_asm.proofs.Listed.{gathered_push}
 
--- What is known behind some lines: the places of labels, how many words they make, and how many labels they have.
-pub record Behind : Type 0 where
+-- What is known after some lines: the places of labels, how many words they make, and how many labels they have.
+pub record Known : Type 0 where
   pub places : List ℕ → Option ℕ
   pub here : ℕ
   pub labels : ℕ
 
--- Behind no line.
-abbrev pub start : Behind
+-- After no line.
+abbrev pub start : Known
 start = record { places = λ q. None; here = 0; labels = 0 }
 
--- Behind one more line.
-abbrev pub after : Behind → KernelLine → Behind
+-- After one more line.
+abbrev pub after : Known → KernelLine → Known
 after b line = record {
   places = λ q. noted (b.places q) (is_option line.label q) b.here;
   here = b.here + words_in line.statement;
@@ -36,7 +36,7 @@ after b line = record {
 }
 
 -- The line has a fault of some kind, by the offset of its target.
-abbrev pub has_kind : Behind → KernelLine → Option Offset → Bool
+abbrev pub has_kind : Known → KernelLine → Option Offset → Bool
 has_kind b line offset =
     is_none line.statement
     || (is_out_of_range line.statement
@@ -44,12 +44,12 @@ has_kind b line offset =
     || ((nat_lt 16384 (b.here + words_in line.statement) || (is_some line.label && nat_le 16384 b.labels))
     || is_far offset)))
 
--- One of the lines has a fault, where all labels have these places.
-abbrev pub has_fault : (List ℕ → Option ℕ) → Behind → List KernelLine → Bool
+-- One of the lines has a fault, if all labels have these places.
+abbrev pub has_fault : (List ℕ → Option ℕ) → Known → List KernelLine → Bool
 has_fault all b [] = false
 has_fault all b (l ∷ ls) = has_kind b l (target_offset all b.here l.statement) || has_fault all (after b l) ls
 
--- One of the lines has a fault, where they are all.
+-- One of the lines has a fault, if they are all.
 abbrev pub is_faulty : List KernelLine → Bool
 is_faulty lines = has_fault (fold after start lines).places start lines
 
@@ -59,8 +59,8 @@ taken lines = map (λ l. line_of l.1) lines
 
 -- ---- it computes what the rules say
 
--- What is known behind these lines is right.
-record Knows (before : List TextLine) (b : Behind) : Type 0 where
+-- What is known after these lines is right.
+record Knows (before : List TextLine) (b : Known) : Type 0 where
   places : (q : List ℕ) → place_of before q ≡ b.places q
   here : place_after before ≡ b.here
   labels : length (labels_of before) ≡ b.labels
@@ -72,7 +72,7 @@ label_count : (here : ℕ) (o : Option (List ℕ)) → length (label_at here o) 
 label_count here None = refl
 label_count here (Some name) = refl
 
-knows_more : (before : List TextLine) (l : TextLine) (b : Behind) → Knows before b → Knows (before ++ l ∷ []) (after b (line_of l.1))
+knows_more : (before : List TextLine) (l : TextLine) (b : Known) → Knows before b → Knows (before ++ l ∷ []) (after b (line_of l.1))
 knows_more before l b k = record {
   places = λ q. place_of_push before l q ∙ (λ i. noted (k.places q i) (has_label q l) (k.here i));
   here = place_after_push before l ∙ ap (λ n. n + size_of l.1) k.here;
@@ -81,12 +81,12 @@ knows_more before l b k = record {
       ∙ (λ i. k.labels i + label_count (0 + place_after before) (label_of l.1) i);
 }
 
-knows_all : (before lines : List TextLine) (b : Behind) → Knows before b → Knows (before ++ lines) (fold after b (taken lines))
+knows_all : (before lines : List TextLine) (b : Known) → Knows before b → Knows (before ++ lines) (fold after b (taken lines))
 knows_all before [] b k = subst (λ ls. Knows ls b) (sym (append-nil before)) k
 knows_all before (l ∷ ls) b k = subst (λ all. Knows all (fold after (after b (line_of l.1)) (taken ls))) (append_assoc before (l ∷ []) ls) (knows_all (before ++ l ∷ []) ls (after b (line_of l.1)) (knows_more before l b k))
 
 -- A line for which the test fails has none of the kinds.
-no_kind : (b : Behind) (line : KernelLine) (offset : Option Offset) → has_kind b line offset ≡ false → (kind : AsmKind) → HasKind b.places b.here b.labels line offset kind → ⊥
+no_kind : (b : Known) (line : KernelLine) (offset : Option Offset) → has_kind b line offset ≡ false → (kind : AsmKind) → HasKind b.places b.here b.labels line offset kind → ⊥
 no_kind b line offset h kind k =
     let p = or_parts (is_none line.statement) _ h in
     let q = or_parts (is_out_of_range line.statement) _ p.1 in
@@ -102,13 +102,13 @@ no_kind b line offset h kind k =
     by kinds.Count k p q r s t = both_ways _ s k
     by kinds.Reach k p q r s t = both_ways _ t k
 
-sound : (all before : List TextLine) (text : List ℕ) (places : List ℕ → Option ℕ) (b : Behind) → ((q : List ℕ) → place_of all q ≡ places q) → Knows before b
+sound : (all before : List TextLine) (text : List ℕ) (places : List ℕ → Option ℕ) (b : Known) → ((q : List ℕ) → place_of all q ≡ places q) → Knows before b
     → has_kind b (line_of text) (target_offset places b.here (line_of text).statement) ≡ false → (kind : AsmKind) → Breaks all before text kind → ⊥
 sound all before text places b e k h kind f =
     no_kind b (line_of text) (target_offset places b.here (line_of text).statement) h kind
     (subst (λ X. X) (λ i. HasKind (λ q. k.places q i) (k.here i) (k.labels i) (line_of text) (target_offset (λ q. e q i) (k.here i) (line_of text).statement) kind) f)
 
-walked : (all before lines : List TextLine) (places : List ℕ → Option ℕ) (b : Behind) → ((q : List ℕ) → place_of all q ≡ places q) → Knows before b → IsFaultless (Breaks all) before → has_fault places b (taken lines) ≡ false → IsFaultless (Breaks all) (before ++ lines)
+walked : (all before lines : List TextLine) (places : List ℕ → Option ℕ) (b : Known) → ((q : List ℕ) → place_of all q ≡ places q) → Knows before b → IsFaultless (Breaks all) before → has_fault places b (taken lines) ≡ false → IsFaultless (Breaks all) (before ++ lines)
 walked all before [] places b e k f h = subst (IsFaultless (Breaks all)) (sym (append-nil before)) f
 walked all before (l ∷ ls) places b e k f h =
     let p = or_parts (has_kind b (line_of l.1) (target_offset places b.here (line_of l.1).statement)) (has_fault places (after b (line_of l.1)) (taken ls)) h in

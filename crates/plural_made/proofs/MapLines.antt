@@ -16,19 +16,20 @@ use Rattle.plural_map_text.specs.Print.{map_text}
 use Rattle.plural_reread.specs.Laws.{IsSpelledRegion, IsSpelledTask, IsVersion1}
 use Rattle.plural_reread.proofs.RoundTrip.{map_round_trip}
 use Rattle.plural_generator.specs.Tasks.{fir_task, top_task, best_task, loud_task, quiet_task, done_task, made_tasks, made_map}
-use Rattle.plural_generator.proofs.Mapped.{made_within}
+use Rattle.plural_generator.proofs.MapLimits.{made_within}
 use Rattle.plural_bundle.specs.Sections.{closes}
 use Rattle.plural_bundle.specs.Laws.{Stay}
-use Rattle.plural_made.proofs.Whole.{EndsLine}
-use Rattle.plural_made.proofs.Stays.{stay_by}
-use Rattle.plural_made.proofs.Kernels.{kernel_labels}
-use Rattle.plural_made.proofs.Renumbered as renumbered
-use Rattle.plural_made.proofs.Renumbered.{lines_from, faultless_again, faultless_apart, lines_again, map_reads, closed_again}
+use Rattle.plural_made.proofs.TextLines.{EndsLine}
+use Rattle.plural_made.proofs.SectionLines.{stay_by}
+use Rattle.plural_made.proofs.KernelLines.{kernel_labels}
+use Rattle.plural_made.proofs.LineNumbers as renumbered
+use Rattle.plural_made.proofs.LineNumbers.{lines_from, faultless_again, faultless_apart, lines_again, map_reads, closed_again}
 
 -- The map lines.
 abbrev pub maps : List TextLine
 maps = lines_from 3 (map_text made_map)
 
+-- The map lines end with a line end.
 pub map_ends : EndsLine (map_text made_map)
 unfolding made_map digits
 map_ends rest = refl
@@ -37,6 +38,7 @@ none_closes : list_all (λ l. not (closes l.1)) maps ≡ true
 unfolding made_map digits
 none_closes = refl
 
+-- No map line closes the section.
 pub map_stays : Stay maps
 map_stays = stay_by maps none_closes
 
@@ -108,5 +110,6 @@ words_are : made_map.words ≡ 32816
 unfolding made_map
 words_are = refl
 
+-- The map that the map lines spell has 32,816 words.
 pub map_words : (map_of maps).words ≡ 32816
 map_words = ap (λ (m : MapValue). m.words) map_is ∙ words_are

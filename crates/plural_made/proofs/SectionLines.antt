@@ -8,10 +8,10 @@ use Rattle.plural_image.specs.Print.{hex_digit, row_text, row_lines, image_text}
 use Rattle.plural_image.proofs.Again.{row_first}
 use Rattle.plural_bundle.specs.Sections.{closes}
 use Rattle.plural_bundle.specs.Laws.{Stay}
-use Rattle.plural_made.proofs.Renumbered.{lines_from}
-use Rattle.plural_made.proofs.Whole.{EndsLine, ends_nothing, ends_with, ends_each}
+use Rattle.plural_made.proofs.LineNumbers.{lines_from}
+use Rattle.plural_made.proofs.TextLines.{EndsLine, ends_nothing, ends_with, ends_each}
 
--- Lines stay where a test of each says so.
+-- Lines stay if a test of each says so.
 pub stay_by : (lines : List TextLine) → list_all (λ l. not (closes l.1)) lines ≡ true → Stay lines
 stay_by [] h = tt
 stay_by (l ∷ ls) h = let p = and_parts (not (closes l.1)) (list_all (λ l. not (closes l.1)) ls) h in (not-true (closes l.1) p.0, stay_by ls p.1)
@@ -40,6 +40,7 @@ rows_stay words (r ∷ rs) n =
     let ws = take 8 (drop (8 * r) words) in
     rows_more n (8 * r) ws (flat_map (row_of words) rs) (list_all (λ w. w == 0) ws) refl (rows_stay words rs)
 
+-- No line of a printed image closes the section.
 pub image_stays : (words : List ℕ) (n : ℕ) → Stay (lines_from n (image_text words))
 image_stays words n = rows_stay words (range_with_len 0 (length words / 8)) n
 
@@ -47,6 +48,7 @@ row_ends : (a : ℕ) (ws : List ℕ) (b : Bool) → list_all (λ w. w == 0) ws �
 row_ends a ws true e = rw e ends_nothing
 row_ends a ws false e = rw e (ends_with (row_text a ws))
 
+-- A printed image ends with a line end.
 pub image_ends : (words : List ℕ) → EndsLine (image_text words)
 image_ends words =
     ends_each (row_of words) (range_with_len 0 (length words / 8))

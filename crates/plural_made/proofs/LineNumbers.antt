@@ -22,7 +22,7 @@ texts lines = map (λ l. l.1) lines
 
 -- ---- faults
 
--- A line of this text, behind lines of the texts of those before it elsewhere.
+-- A line of this text, after lines of the texts of those before it elsewhere.
 record Found (lines before : List TextLine) (text : List ℕ) : Type 0 where
   front : List TextLine
   number : ℕ
@@ -43,6 +43,7 @@ found (x ∷ xs) (b ∷ bs) after l e = let t : texts xs ≡ texts (bs ++ l ∷ 
 abbrev pub ReadsTexts : {K : Type 0} → (List TextLine → List ℕ → K → Type 0) → Type 0
 ReadsTexts {K} Breaks = (before other : List TextLine) (text : List ℕ) (kind : K) → texts before ≡ texts other → Breaks before text kind → Breaks other text kind
 
+-- Under a rule that reads texts alone, lines of the same texts as lines without a fault have none.
 pub faultless_again : {K : Type 0} (Breaks : List TextLine → List ℕ → K → Type 0) (lines others : List TextLine) → ReadsTexts Breaks → texts lines ≡ texts others → IsFaultless Breaks lines → IsFaultless Breaks others
 faultless_again Breaks lines others reads e f = record {
   none = λ n kind h.
@@ -56,7 +57,8 @@ fold_texts : {A : Type 0} (f : A → List ℕ → A) (a : A) (lines : List TextL
 fold_texts f a [] = refl
 fold_texts f a (l ∷ ls) = fold_texts f (f a l.1) ls
 
-pub fold_again : {A : Type 0} (f : A → List ℕ → A) (a : A) (lines others : List TextLine) → texts lines ≡ texts others → fold (λ a l. f a l.1) a lines ≡ fold (λ a l. f a l.1) a others
+-- A fold over the texts is the same over lines of the same texts.
+fold_again : {A : Type 0} (f : A → List ℕ → A) (a : A) (lines others : List TextLine) → texts lines ≡ texts others → fold (λ a l. f a l.1) a lines ≡ fold (λ a l. f a l.1) a others
 fold_again f a lines others e = fold_texts f a lines ∙ ap (fold f a) e ∙ sym (fold_texts f a others)
 
 -- The same texts are as many lines.
@@ -65,12 +67,15 @@ length_again lines others e = sym (length-map lines (λ l. l.1)) ∙ ap length e
 
 -- ---- map lines
 
-pub parts_again : (lines others : List TextLine) → texts lines ≡ texts others → parts_of lines ≡ parts_of others
+-- Lines of the same texts spell the same parts of a map.
+parts_again : (lines others : List TextLine) → texts lines ≡ texts others → parts_of lines ≡ parts_of others
 parts_again lines others e = fold_again (λ p text. option_map_or (with_line p) (shape_of text) p) nothing lines others e
 
+-- Lines of the same texts spell the same map.
 pub map_again : (lines others : List TextLine) → texts lines ≡ texts others → map_of lines ≡ map_of others
 map_again lines others e = ap whole (parts_again lines others e)
 
+-- The rule of map lines reads texts alone.
 pub map_reads : (labels : List (List ℕ)) (all : List TextLine) → ReadsTexts (map_rules.Breaks 1 labels all)
 map_reads labels all before other [] kind e b = subst (λ n. map_rules.ClosesEarly n kind) (length_again before other e) b
 map_reads labels all before other (c ∷ cs) kind e b =
@@ -89,17 +94,20 @@ faultless_apart labels all every lines f = record {
   none = λ n k h. f.none n k (record { before = h.before; text = h.text; after = h.after; whole = h.whole; breaks = all_apart labels every all h.before h.text k h.breaks });
 }
 
+-- Lines of the same texts have the same texts with the line that closes them.
 pub closed_again : (lines others : List TextLine) (end last : ℕ) → texts lines ≡ texts others → texts (closed lines end) ≡ texts (closed others last)
 closed_again lines others end last e = map-append (λ (l : TextLine). l.1) lines ((end, []) ∷ []) ∙ ap (λ ts. ts ++ [] ∷ []) e ∙ sym (map-append (λ (l : TextLine). l.1) others ((last, []) ∷ []))
 
 -- ---- image lines
 
+-- The rule of image lines reads texts alone.
 pub image_reads : (words : ℕ) → ReadsTexts (image.Breaks words)
 image_reads words before other text image_kind.Form e b = b
 image_reads words before other text image_kind.Address e b =
     let ends : end_before before ≡ end_before other = fold_again (λ _ t. end_of t) 0 before other e in
     subst (λ n. IsSomeAnd (image_line text) (IsMisplaced words n)) ends b
 
+-- Lines of the same texts spell the same image.
 pub image_again : (words : ℕ) (lines others : List TextLine) → texts lines ≡ texts others → image_of words lines ≡ image_of words others
 image_again words lines others e = fold_again (λ ws text. option_map_or (λ p. overwritten ws p.0 p.1) (image_line text) ws) (replicate words 0) lines others e
 
