@@ -3,6 +3,7 @@ pub mod Arithmetic
 pub mod Subword
 pub mod Act
 pub mod Turn
+pub mod Recent
 pub mod Execution
 pub mod Port
 pub mod Life

@@ -10,10 +10,11 @@ ghost use Rattle.plural_core.specs.Turn.{Core, State, going, trapped, finished, 
 
 use crate::end::End;
 use crate::execute::{Action, Load, Store, execute, register};
+use crate::guard::{Recent, may_read, may_write};
 use crate::port::DataPort;
 use crate::subword::{Width, merged, part, size};
 use plural_isa::{Code, Reg};
-use plural_regions::{Mode, Region};
+use plural_regions::Region;
 use std::marker::Model;
 
 /// What an instance begins with.
@@ -77,25 +78,10 @@ fn action(code: &Code, registers: &[u32; 32], pc: u32) -> Action
     }
 }
 
-/// The guard of a load: whether some region has the word.
-#[inline(always)]
-fn may_read(regions: &[Region], k: u32, a: u32) -> bool
-    ensures { result ≡ may_read regions.now k a }
-{
-    regions.iter().any(|region| region.contains(k, a))
-}
-
-/// The guard of a store: whether some write region has the word.
-#[inline(always)]
-fn may_write(regions: &[Region], k: u32, a: u32) -> bool
-    ensures { result ≡ may_write regions.now k a }
-{
-    regions.iter().any(|region| region.mode == Mode::Write && region.contains(k, a))
-}
-
 impl Hart {
     ghost use Rattle.std.specs.Prelude.{◌≡◌, ◌<◌, ◌≤◌, ◌+◌, ◌-◌, ℕ, true, List, [], length, None, Some, slice_index};
     ghost use Rattle.plural_regions.specs.Rights.{may_read, may_write};
+    ghost use Rattle.plural_core.specs.Recent.{IsRecent};
     ghost use Rattle.plural_core.specs.Port.{Makes};
     ghost use Rattle.plural_base.specs.Told.{Foresees};
     ghost use Rattle.plural_core.specs.declared.end.End.TheVariants.{Trap as trap};
@@ -126,7 +112,6 @@ impl Hart {
 
     /// One instruction, as the model's turn over what the port holds. A trap changes nothing but the
     /// end.
-    #[tactic(auto, unfolding(crate::specs::Turn::turn))]
     #[inline(always)]
     pub fn turn<P: DataPort>(&mut self, code: &Code, regions: &[Region], port: &mut P) -> Turn
         requires going { self.old.state.over ≡ None }
@@ -141,10 +126,38 @@ impl Hart {
         ensures outcome { result ≡ outcome_of self.new.state.over }
         ensures within { self.new.state.over ≡ None → self.new.state.count < self.new.budget }
     {
+        let mut recent = Recent::none();
+        self.turn_by(code, regions, &mut recent, port)
+    }
+
+    /// The same, by the regions that were used last.
+    #[tactic(auto, unfolding(crate::specs::Turn::turn))]
+    #[inline(always)]
+    pub(crate) fn turn_by<P: DataPort>(
+        &mut self,
+        code: &Code,
+        regions: &[Region],
+        recent: &mut Recent,
+        port: &mut P,
+    ) -> Turn
+        requires going { self.old.state.over ≡ None }
+        requires recent { IsRecent regions.now self.old.k recent.old }
+        requires sound { P.is_sound port.old }
+        requires lawful { (a : ℕ) → may_read regions.now self.old.k a ≡ true → (P.told port.old).lawful a ≡ true }
+        requires loads { (P.counts port.old).reads ≤ self.old.state.count }
+        requires stores { (P.counts port.old).writes ≤ self.old.state.count }
+        requires expected { Foresees (P.told port.old).expects (turn_of code.now regions.now self.old (P.told port.old).words).stores }
+        ensures state { self.new ≡ record self.old { state = (turn_of code.now regions.now self.old (P.told port.old).words).state } }
+        ensures port { Makes P.told P.counts P.stands_for P.keeps P.is_sound port.old port.new
+            (turn_of code.now regions.now self.old (P.told port.old).words) }
+        ensures recent { IsRecent regions.now self.old.k recent.new }
+        ensures outcome { result ≡ outcome_of self.new.state.over }
+        ensures within { self.new.state.over ≡ None → self.new.state.count < self.new.budget }
+    {
         match action(code, &self.registers, self.pc) {
             Action::Go { rd, value, pc } => self.go(rd, value, pc),
-            Action::Read(load) => self.read(regions, port, load),
-            Action::Write(store) => self.write(regions, port, store),
+            Action::Read(load) => self.read(regions, recent, port, load),
+            Action::Write(store) => self.write(regions, recent, port, store),
             Action::Finish => self.finish(),
             Action::Trap { cause } => self.trap(cause),
         }
@@ -208,12 +221,20 @@ impl Hart {
 
     /// A load under the guard.
     #[inline(always)]
-    fn read<P: DataPort>(&mut self, regions: &[Region], port: &mut P, load: Load)
+    fn read<P: DataPort>(
+        &mut self,
+        regions: &[Region],
+        recent: &mut Recent,
+        port: &mut P,
+        load: Load,
+    )
         requires going { self.old.state.over ≡ None }
+        requires recent { IsRecent regions.now self.old.k recent.old }
         requires sound { P.is_sound port.old }
         requires lawful { (a : ℕ) → may_read regions.now self.old.k a ≡ true → (P.told port.old).lawful a ≡ true }
         requires loads { (P.counts port.old).reads ≤ self.old.state.count }
         ensures state { self.new ≡ record self.old { state = (does (place_of [] regions.now self.old) self.old.state (P.told port.old).words (Read load.address load.width load.sign load.rd)).state } }
+        ensures recent { IsRecent regions.now self.old.k recent.new }
         ensures port { Makes P.told P.counts P.stands_for P.keeps P.is_sound port.old port.new
             (does (place_of [] regions.now self.old) self.old.state (P.told port.old).words (Read load.address load.width load.sign load.rd)) }
     {
@@ -225,7 +246,7 @@ impl Hart {
         } = load;
         if address % size(width) != 0 {
             self.trap(4);
-        } else if !may_read(regions, self.k, address / 4) {
+        } else if !may_read(regions, recent, self.k, address / 4) {
             self.trap(5);
         } else {
             let word = port.load(address / 4);
@@ -237,14 +258,22 @@ impl Hart {
 
     /// A store under the guard; of less than a word it loads its word first.
     #[inline(always)]
-    fn write<P: DataPort>(&mut self, regions: &[Region], port: &mut P, store: Store)
+    fn write<P: DataPort>(
+        &mut self,
+        regions: &[Region],
+        recent: &mut Recent,
+        port: &mut P,
+        store: Store,
+    )
         requires going { self.old.state.over ≡ None }
+        requires recent { IsRecent regions.now self.old.k recent.old }
         requires sound { P.is_sound port.old }
         requires lawful { (a : ℕ) → may_read regions.now self.old.k a ≡ true → (P.told port.old).lawful a ≡ true }
         requires loads { (P.counts port.old).reads ≤ self.old.state.count }
         requires stores { (P.counts port.old).writes ≤ self.old.state.count }
         requires expected { Foresees (P.told port.old).expects (does (place_of [] regions.now self.old) self.old.state (P.told port.old).words (Write store.address store.width store.value)).stores }
         ensures state { self.new ≡ record self.old { state = (does (place_of [] regions.now self.old) self.old.state (P.told port.old).words (Write store.address store.width store.value)).state } }
+        ensures recent { IsRecent regions.now self.old.k recent.new }
         ensures port { Makes P.told P.counts P.stands_for P.keeps P.is_sound port.old port.new
             (does (place_of [] regions.now self.old) self.old.state (P.told port.old).words (Write store.address store.width store.value)) }
     {
@@ -255,7 +284,7 @@ impl Hart {
         } = store;
         if address % size(width) != 0 {
             self.trap(6);
-        } else if !may_write(regions, self.k, address / 4) {
+        } else if !may_write(regions, recent, self.k, address / 4) {
             self.trap(7);
         } else {
             let word = match width {

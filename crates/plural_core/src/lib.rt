@@ -10,6 +10,7 @@
 mod arithmetic;
 mod end;
 mod execute;
+mod guard;
 mod hart;
 pub mod laws;
 mod life;

@@ -6,6 +6,7 @@ ghost use Rattle.plural_core.specs.Port.{Makes};
 ghost use Rattle.plural_core.specs.Life.{rest_of};
 
 use crate::end::End;
+use crate::guard::Recent;
 use crate::hart::{Hart, Turn};
 use crate::port::DataPort;
 use plural_isa::Code;
@@ -27,8 +28,9 @@ pub fn run<P: DataPort>(hart: &mut Hart, code: &Code, regions: &[Region], port: 
     ensures end { hart.new.state.over ≡ Some result }
     ensures words { length (P.told port.new).words ≡ length (P.told port.old).words }
 {
+    let mut recent = Recent::none();
     loop {
-        match hart.turn(code, regions, port) {
+        match hart.turn_by(code, regions, &mut recent, port) {
             Turn::Going => {}
             Turn::Over(end) => return end,
         }

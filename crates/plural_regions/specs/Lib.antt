@@ -1,4 +1,5 @@
 pub mod Rights
+pub mod Windows
 pub mod Bounds
 pub mod Residue
 pub mod Meeting

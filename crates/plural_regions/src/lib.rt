@@ -14,8 +14,10 @@ mod meeting;
 mod region;
 mod residue;
 mod triple;
+mod window;
 
 pub use meeting::{meet, meet_by_scan};
 pub use region::{Mode, Outside, Region};
 pub use residue::least_residue;
 pub use triple::Meet;
+pub use window::Window;

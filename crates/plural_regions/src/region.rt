@@ -1,6 +1,7 @@
 //! One affine region.
 ghost use Rattle.std.specs.Prelude.{◌≤◌};
 
+use crate::window::Window;
 use std::default::Default;
 
 /// What a region lets an instance do.
@@ -62,6 +63,7 @@ pub struct Outside {
 impl Region {
     ghost use Rattle.std.specs.Prelude.{◌≡◌, ◌+◌, ◌*◌, ◌<◌, ◌↔◌, ℕ, IsTrue, IfOk, IfErr, IfSome, IfNone};
     ghost use Rattle.plural_regions.specs.Rights.{IsIn, is_in};
+    ghost use Rattle.plural_regions.specs.Windows.{window_of};
     ghost use Rattle.plural_regions.specs.Bounds.{IsInside, IsOutside, AllInside, IsLeastOutside};
 
     /// Whether word `a` is a word of instance `k`.
@@ -79,6 +81,18 @@ impl Region {
         ensures { result ≡ self.now.base + self.now.stride * k }
     {
         u64::from(self.base) + u64::from(self.stride) * u64::from(k)
+    }
+
+    /// The words of instance `k`.
+    #[inline(always)]
+    pub fn window(&self, k: u32) -> Window
+        ensures { result ≡ window_of k self.now }
+    {
+        let first = self.start(k);
+        Window {
+            first,
+            past: first + u64::from(self.count),
+        }
     }
 
     /// Whether word `a` lies from the first word of instance `k` to the last.

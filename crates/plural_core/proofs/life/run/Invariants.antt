@@ -2,6 +2,7 @@ use Rattle.std.proofs.Common.{◌≡◌, ◌-◌, ◌≤◌, ◌<◌, None}
 use Rattle.plural_core.specs.Turn.{Step, place_of}
 use Rattle.plural_base.specs.Told.{Expects}
 use Rattle.plural_core.specs.Port.{Makes}
+use Rattle.plural_core.specs.Recent.{IsRecent}
 use Rattle.plural_core.specs.Life.{life, join}
 use Rattle.plural_core.proofs.life.run.Given as goal
 
@@ -16,6 +17,7 @@ invariant-loop-end g l =
       room : l.hart.state.count < l.hart.budget;
       k : l.hart.k ≡ l.fn.hart.k;
       budget : l.hart.budget ≡ l.fn.hart.budget;
+      recent : IsRecent l.regions l.hart.k l.recent;
       sound : P.is_sound l.port;
       loads : (P.counts l.port).reads ≤ l.hart.state.count;
       stores : (P.counts l.port).writes ≤ l.hart.state.count;
