@@ -10,14 +10,16 @@ use Rattle.plural_cache.specs.Cache.{CacheValue, set_of, is_present, StandsFor, 
 use Rattle.plural_cache.proofs.Misses.{Unique, hits_is, misses_more, present_other, present_hit, present_miss, present_unique}
 use Rattle.plural_cache.proofs.Orders.{bool_cases, keys-take, look_brought, front_brought, keys_brought}
 
-pub whole_word : (a : ℕ) → 8 * (a / 8) + a % 8 ≡ a
+whole_word : (a : ℕ) → 8 * (a / 8) + a % 8 ≡ a
 whole_word a = omega arith
 
+-- The set that was replaced is the new one.
 pub set_same : (t : List (List Line)) (s : ℕ) (ls : List Line) → s < length t → get_or (set t s ls) s [] ≡ ls
 set_same [] s ls lt = absurd (let h : ⊥ = omega arith in h)
 set_same (x ∷ t) zero ls lt = refl
 set_same (x ∷ t) (suc s) ls lt = set_same t s ls (omega arith)
 
+-- A set that was not replaced is as it was.
 pub set_other : (t : List (List Line)) (s r : ℕ) (ls : List Line) → eqb s r ≡ false → get_or (set t s ls) r [] ≡ get_or t r []
 set_other [] s r ls e = refl
 set_other (x ∷ t) zero zero ls e = absurd (cc e)
@@ -25,14 +27,14 @@ set_other (x ∷ t) zero (suc r) ls e = refl
 set_other (x ∷ t) (suc s) zero ls e = refl
 set_other (x ∷ t) (suc s) (suc r) ls e = set_other t s r ls (grind (arith, nat_tests))
 
--- fewer lines show no other words
+-- Fewer lines show no other words.
 look_take : (y n : ℕ) (ls : List Line) (P : List ℕ → Type 0) → IfSome (look y ls) P → IfSome (look y (take n ls)) P
 look_take y zero ls P h = tt
 look_take y (suc n) [] P h = h
 look_take y (suc n) (l ∷ ls) P h =
     (elim (eqb l.line y) as (λ b. IfSome (cond b (Some l.words) (look y ls)) P → IfSome (cond b (Some l.words) (look y (take n ls))) P) [ true ↦ λ k. k | false ↦ look_take y n ls P ]) h
 
--- a cache whose set for the word a is now ls
+-- A cache whose set for the word a is now ls.
 abbrev pub with_load : CacheValue → (a : ℕ) → List Line → CacheValue
 with_load c a ls = record c { held = set c.held (a / 8 % c.sets) ls; loads = c.loads + 1; misses = c.misses + cond (is_present c a) 0 1 }
 
@@ -52,7 +54,7 @@ module _ (c : CacheValue) (ok : IsCache c) (a : ℕ) (new : List Line) (told : T
   pub new_miss : Order → is_present c a ≡ false → new ≡ record { line = a / 8; words = front new } ∷ take (c.ways - 1) (set_of c (a / 8 % c.sets))
   new_miss o p = o ∙ ap (λ b. loaded b c.ways (a / 8) (front new) (set_of c (a / 8 % c.sets))) p
 
-  -- the keys of the set
+  -- The keys of the set.
   pub next_keys : Order → (h : List ℕ) → StandsFor c h → keys new ≡ present_after c.sets c.ways (h ++ a ∷ []) (a / 8 % c.sets)
   next_keys o h f =
       let s = a / 8 % c.sets in
@@ -146,12 +148,13 @@ module _ (c : CacheValue) (ok : IsCache c) (a : ℕ) (new : List Line) (told : T
             (bool_cases (eqb (a / 8 % c.sets) (b / 8 % c.sets)));
       }
 
+-- The set that a place of the table shows is the one that stands there.
 pub set_is : (t : List (List Line)) (s : ℕ) (d : List Line) → s < length t → d ≡ get_or t s d → d ≡ get_or t s []
 set_is [] s d lt e = absurd (let h : ⊥ = omega arith in h)
 set_is (x ∷ t) zero d lt e = e
 set_is (x ∷ t) (suc s) d lt e = set_is t s d (omega arith) e
 
--- the same, over what the body knows
+-- The same, over what the body knows.
 module _ (c : CacheValue) (ok : IsCache c) (a m s : ℕ) (at : s ≡ a / 8 % c.sets) (was new : List Line) (told : Told) (there : was ≡ get_or c.held s was) (order : new ≡ loaded (is_in (a / 8) (keys was)) c.ways (a / 8) (front new) was) where
   was_is : was ≡ set_of c (a / 8 % c.sets)
   was_is = set_is c.held (a / 8 % c.sets) was (let t = ok.table in let some = ok.some_sets in omega arith) (there ∙ ap (λ s. get_or c.held s was) at)

@@ -4,10 +4,10 @@ use Rattle.std.proofs.lemmas.Bool.Decides.{nat_tests}
 use Rattle.std.proofs.lemmas.List.{reverse-append, map-append, length-reverse}
 use Rattle.plural_cache.specs.Miss.{is_in, since, without, different, of_set, lines_back, hits_after, misses_back, hits, misses_of, present_after}
 
-pub lines_back-append : (h : List ℕ) (a : ℕ) → lines_back (h ++ a ∷ []) ≡ a / 8 ∷ lines_back h
+lines_back-append : (h : List ℕ) (a : ℕ) → lines_back (h ++ a ∷ []) ≡ a / 8 ∷ lines_back h
 lines_back-append h a = ap reverse (map-append (λ a. a / 8) h (a ∷ [])) ∙ reverse-append (map (λ a. a / 8) h) (a / 8 ∷ [])
 
--- two filters
+-- Two filters.
 since-without : (x y : ℕ) (l : List ℕ) → eqb y x ≡ false → since x (without y l) ≡ without y (since x l)
 since-without x y [] e = refl
 since-without x y (z ∷ l) e = grind (arith, nat_tests, since-without x y l e)
@@ -37,7 +37,7 @@ is_in-take x zero l = grind (arith, nat_tests)
 is_in-take x (suc n) [] = refl
 is_in-take x (suc n) (y ∷ l) = grind (arith, nat_tests, is_in-take x n l)
 
--- no line stands twice
+-- No line stands twice.
 abbrev pub Unique : List ℕ → Type 0
 Unique [] = Unit {0}
 Unique (y ∷ ys) = (is_in y ys ≡ false) × Unique ys
@@ -59,6 +59,7 @@ unique_different : (l : List ℕ) → Unique (different l)
 unique_different [] = tt
 unique_different (y ∷ l) = (is_in-without_self y (different l), unique_without y (different l) (unique_different l))
 
+-- Without a line that is absent, the lines are as they were.
 pub without_none : (x : ℕ) (l : List ℕ) → is_in x l ≡ false → without x l ≡ l
 without_none x [] e = refl
 without_none x (y ∷ l) e = grind (arith, nat_tests, without_none x l)

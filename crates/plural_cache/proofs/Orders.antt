@@ -7,17 +7,18 @@ use Rattle.plural_cache.specs.Miss.{is_in, without}
 use Rattle.plural_cache.specs.Lines.{keys, look, chosen, others, brought, updated, front, IsFirst}
 use Rattle.plural_cache.proofs.Misses.{Unique, without_none}
 
+-- A Bool is true or false.
 pub bool_cases : (b : Bool) → (b ≡ true) ⊎ (b ≡ false)
 bool_cases true = inl refl
 bool_cases false = inr refl
 
--- shifting lines up by one
+-- Shifting lines up by one.
 carry : (xs : List Line) (i : ℕ) (c d : Line) → i < length xs → d ≡ get_or xs i d → take (suc i) (set xs i c) ++ d ∷ drop (suc i) (set xs i c) ≡ take i xs ++ c ∷ drop i xs
 carry [] i c d lt e = absurd (let h : ⊥ = omega arith in h)
 carry (x ∷ xs) zero c d lt e = ap (λ (y : Line). c ∷ y ∷ xs) e
 carry (x ∷ xs) (suc i) c d lt e = ap (λ (l : List Line). x ∷ l) (carry xs i c d (omega arith) e)
 
-pub carry_next : (xs : List Line) (i : ℕ) (c d : Line) → i < length xs → d ≡ get_or xs i d → insert (set xs i c) (i + 1) d ≡ insert xs i c
+carry_next : (xs : List Line) (i : ℕ) (c d : Line) → i < length xs → d ≡ get_or xs i d → insert (set xs i c) (i + 1) d ≡ insert xs i c
 carry_next xs i c d lt e = let s : i + 1 ≡ suc i = omega arith in ap (insert' (set xs i c) d) s ∙ carry xs i c d lt e
   where
     insert' : List Line → Line → ℕ → List Line
@@ -36,6 +37,7 @@ head_or : Line → List Line → Line
 head_or d [] = d
 head_or d (x ∷ xs) = x
 
+-- Once all are carried on by one place, the new line stands before the old ones.
 pub carried_all : (xs old : List Line) (p : ℕ) (c line : Line) → suc p ≤ length xs → insert xs (suc p) c ≡ line ∷ old → xs ≡ line ∷ remove old p
 unfolding tail_of head_or
 carried_all [] old p c line le e = absurd (let h : ⊥ = omega arith in h)
@@ -44,22 +46,22 @@ carried_all (x ∷ xs) old p c line le e =
     let rest : insert xs p c ≡ old = ap tail_of e in
     ap (λ (y : Line). y ∷ xs) first ∙ ap (λ (l : List Line). line ∷ l) (sym (remove-insert xs p c (omega arith)) ∙ ap (λ (l : List Line). remove l p) rest)
 
--- the first line of that number
+-- The first line of that number.
 pub keys-take : (p : ℕ) (ls : List Line) → keys (take p ls) ≡ take p (keys ls)
 keys-take zero ls = refl
 keys-take (suc p) [] = refl
 keys-take (suc p) (l ∷ ls) = ap (λ (r : List ℕ). l.line ∷ r) (keys-take p ls)
 
-pub length-keys : (ls : List Line) → length (keys ls) ≡ length ls
+length-keys : (ls : List Line) → length (keys ls) ≡ length ls
 length-keys [] = refl
 length-keys (l ∷ ls) = ap suc (length-keys ls)
 
-pub key_at : (ls : List Line) (p : ℕ) (d : Line) → p < length ls → get_or (keys ls) p 0 ≡ (get_or ls p d).line
+key_at : (ls : List Line) (p : ℕ) (d : Line) → p < length ls → get_or (keys ls) p 0 ≡ (get_or ls p d).line
 key_at [] p d lt = absurd (let h : ⊥ = omega arith in h)
 key_at (l ∷ ls) zero d lt = refl
 key_at (l ∷ ls) (suc p) d lt = key_at ls p d (omega arith)
 
-pub is_in-next : (x i : ℕ) (ks : List ℕ) → i < length ks → is_in x (take i ks) ≡ false → eqb (get_or ks i 0) x ≡ false → is_in x (take (suc i) ks) ≡ false
+is_in-next : (x i : ℕ) (ks : List ℕ) → i < length ks → is_in x (take i ks) ≡ false → eqb (get_or ks i 0) x ≡ false → is_in x (take (suc i) ks) ≡ false
 is_in-next x i [] lt e n = absurd (let h : ⊥ = omega arith in h)
 is_in-next x zero (k ∷ ks) lt e n = grind (arith, nat_tests)
 is_in-next x (suc i) (k ∷ ks) lt e n = grind (arith, nat_tests, is_in-next x i ks)
@@ -85,11 +87,11 @@ others_at x p [] f = absurd (let w = f.within in let h : ⊥ = omega arith in h)
 others_at x zero (l ∷ ls) f = ap (λ b. cond b ls (l ∷ others x ls)) (eq-eqb l.line x f.is)
 others_at x (suc p) (l ∷ ls) f = ap (λ b. cond b ls (l ∷ others x ls)) (key_before x p l ls f) ∙ ap (λ (r : List Line). l ∷ r) (others_at x p ls (first_after x p l ls f))
 
-pub brought_at : (x p : ℕ) (ls : List Line) (d : Line) → IsFirst x p ls → get_or ls p d ∷ remove ls p ≡ brought x ls
+brought_at : (x p : ℕ) (ls : List Line) (d : Line) → IsFirst x p ls → get_or ls p d ∷ remove ls p ≡ brought x ls
 brought_at x p ls d f =
     ap (λ (r : List Line). get_or ls p d ∷ r) (sym (others_at x p ls f)) ∙ ap (λ (r : List Line). r ++ others x ls) (sym (chosen_at x p ls d f))
 
-pub present_at : (x p : ℕ) (ls : List Line) → IsFirst x p ls → is_in x (keys ls) ≡ true
+present_at : (x p : ℕ) (ls : List Line) → IsFirst x p ls → is_in x (keys ls) ≡ true
 present_at x p [] f = absurd (let w = f.within in let h : ⊥ = omega arith in h)
 present_at x zero (l ∷ ls) f = ap (λ b. b || is_in x (keys ls)) (eq-eqb l.line x f.is)
 present_at x (suc p) (l ∷ ls) f = ap (λ b. b || is_in x (keys ls)) (key_before x p l ls f) ∙ present_at x p ls (first_after x p l ls f)
@@ -102,10 +104,11 @@ others_none : (x : ℕ) (ls : List Line) → is_in x (keys ls) ≡ false → oth
 others_none x [] e = refl
 others_none x (l ∷ ls) e = grind (arith, nat_tests, others_none x ls)
 
+-- Bringing a line that is absent changes nothing.
 pub brought_none : (x : ℕ) (ls : List Line) → is_in x (keys ls) ≡ false → brought x ls ≡ ls
 brought_none x ls e = ap (λ (r : List Line). r ++ others x ls) (chosen_none x ls e) ∙ others_none x ls e
 
--- the lines in use are the first of all
+-- The lines in use are the first of all.
 pub touched : (x p n : ℕ) (ls : List Line) (d : Line) → IsFirst x p (take n ls) → take n (get_or ls p d ∷ remove ls p) ≡ brought x (take n ls)
 touched x p n ls d f = first_n p n ls d (let w = f.within in w) ∙ brought_at x p (take n ls) d f
   where
@@ -140,7 +143,7 @@ take_min zero (suc n) ls = ap (λ k. take k ls) (let e : min (suc n) 0 ≡ 0 = o
 take_min (suc m) (suc n) [] = take_none (min (suc n) (suc m))
 take_min (suc m) (suc n) (l ∷ ls) = ap (λ k. take k (l ∷ ls)) (let e : min (suc n) (suc m) ≡ suc (min n m) = omega arith in e) ∙ ap (λ (r : List Line). l ∷ r) (take_min m n ls)
 
--- a line before the first of the lines in use
+-- A line before the first of the lines in use.
 pub pushed : (n m : ℕ) (ls : List Line) (line : Line) → n ≤ length ls → take (min n m + 1) (line ∷ remove ls (min n m)) ≡ line ∷ take m (take n ls)
 pushed n m ls line le =
     ap (λ k. take k (line ∷ remove ls (min n m))) (let e : min n m + 1 ≡ suc (min n m) = omega arith in e)
@@ -149,13 +152,14 @@ pushed n m ls line le =
 with_word : Line → (w v : ℕ) → Line
 with_word l w v = record l { words = set l.words w v }
 
-pub updated_at : (x w v p : ℕ) (ls : List Line) (d : Line) → IsFirst x p ls → set ls p (record { line = (get_or ls p d).line; words = set (get_or ls p d).words w v }) ≡ updated x w v ls
+updated_at : (x w v p : ℕ) (ls : List Line) (d : Line) → IsFirst x p ls → set ls p (record { line = (get_or ls p d).line; words = set (get_or ls p d).words w v }) ≡ updated x w v ls
 updated_at x w v p [] d f = absurd (let h = f.within in let h : ⊥ = omega arith in h)
 updated_at x w v zero (l ∷ ls) d f = ap (λ b. cond b (record { line = l.line; words = set l.words w v } ∷ ls) (l ∷ updated x w v ls)) (sym (eq-eqb l.line x f.is))
 updated_at x w v (suc p) (l ∷ ls) d f =
     ap (λ (r : List Line). l ∷ r) (updated_at x w v p ls d (first_after x p l ls f))
     ∙ ap (λ b. cond b (record { line = l.line; words = set l.words w v } ∷ ls) (l ∷ updated x w v ls)) (sym (key_before x p l ls f))
 
+-- A store to a line that is absent changes nothing.
 pub updated_none : (x w v : ℕ) (ls : List Line) → is_in x (keys ls) ≡ false → updated x w v ls ≡ ls
 updated_none x w v [] e = refl
 updated_none x w v (l ∷ ls) e = grind (arith, nat_tests, updated_none x w v ls)
@@ -172,7 +176,7 @@ get_in_use p (suc n) [] d le = absurd (let h : ⊥ = omega arith in h)
 get_in_use zero (suc n) (l ∷ ls) d le = refl
 get_in_use (suc p) (suc n) (l ∷ ls) d le = get_in_use p n ls d (omega arith)
 
--- the same among all lines
+-- The same among all lines.
 pub updated_in_use : (x w v p n : ℕ) (ls : List Line) (d : Line) → IsFirst x p (take n ls) → take n (set ls p (record { line = (get_or ls p d).line; words = set (get_or ls p d).words w v })) ≡ updated x w v (take n ls)
 updated_in_use x w v p n ls d f =
     let at : Line → Line = λ l. record { line = l.line; words = set l.words w v } in
@@ -185,16 +189,18 @@ look_at x p [] d f = absurd (let h = f.within in let h : ⊥ = omega arith in h)
 look_at x zero (l ∷ ls) d f = ap (λ b. cond b (Some l.words) (look x ls)) (eq-eqb l.line x f.is)
 look_at x (suc p) (l ∷ ls) d f = ap (λ b. cond b (Some l.words) (look x ls)) (key_before x p l ls f) ∙ look_at x p ls d (first_after x p l ls f)
 
+-- The line at a place in use has eight words if the one there has.
 pub eight_at : (x p n : ℕ) (ls : List Line) (d : Line) → IsFirst x p (take n ls) → length (get_or ls p d).words ≡ 8 → IfSome (look x (take n ls)) (λ ws. length ws ≡ 8)
 eight_at x p n ls d f e =
     subst (λ (o : Option (List ℕ)). IfSome o (λ ws. length ws ≡ 8)) (sym (look_at x p (take n ls) d f))
     (ap (λ (l : Line). length l.words) (get_in_use p n ls d (let h = f.within in h)) ∙ e)
 
+-- A line that is absent shows no words.
 pub look_none : (x : ℕ) (ls : List Line) → is_in x (keys ls) ≡ false → look x ls ≡ None
 look_none x [] e = refl
 look_none x (l ∷ ls) e = grind (arith, nat_tests, look_none x ls)
 
--- what a set shows after a line was brought
+-- What a set shows after a line was brought.
 look_chosen : (x : ℕ) (ls rest : List Line) → look x (chosen x ls ++ rest) ≡ cond (is_in x (keys ls)) (look x ls) (look x rest)
 look_chosen x [] rest = refl
 look_chosen x (l ∷ ls) rest =
@@ -209,6 +215,7 @@ look_others : (x y : ℕ) (ls : List Line) → eqb x y ≡ false → look y (oth
 look_others x y [] e = refl
 look_others x y (l ∷ ls) e = grind (arith, nat_tests, look_others x y ls)
 
+-- Bringing a line to the front changes the words of none.
 pub look_brought : (x y : ℕ) (ls : List Line) → is_in x (keys ls) ≡ true → look y (brought x ls) ≡ look y ls
 look_brought x y ls i =
     ⊎_elim
@@ -220,6 +227,7 @@ front_chosen : (x : ℕ) (ls rest : List Line) → is_in x (keys ls) ≡ true �
 front_chosen x [] rest i = absurd (cc i)
 front_chosen x (l ∷ ls) rest i = let more = front_chosen x ls rest in grind (arith, nat_tests, more)
 
+-- Once a line is brought, the words in front are its own.
 pub front_brought : (x : ℕ) (ls : List Line) → is_in x (keys ls) ≡ true → look x ls ≡ Some (front (brought x ls))
 front_brought x ls i = front_chosen x ls (others x ls) i
 
@@ -238,9 +246,11 @@ keys_others x (l ∷ ls) u =
     let gone = without_none l.line (keys ls) u.0 in
     grind (arith, nat_tests, more, gone)
 
+-- Once a line is brought, its number is first and the others follow as before.
 pub keys_brought : (x : ℕ) (ls : List Line) → is_in x (keys ls) ≡ true → Unique (keys ls) → keys (brought x ls) ≡ x ∷ without x (keys ls)
 keys_brought x ls i u = keys-append (chosen x ls) (others x ls) ∙ ap (λ (k : List ℕ). k ++ keys (others x ls)) (keys_chosen x ls i) ∙ ap (λ (k : List ℕ). x ∷ k) (keys_others x ls u)
 
+-- Once a line is brought, there is a line.
 pub some_brought : (x : ℕ) (ls : List Line) → is_in x (keys ls) ≡ true → 0 < length (brought x ls)
 some_brought x [] i = absurd (cc i)
 some_brought x (l ∷ ls) i = elim (eqb l.line x) as (λ b. 0 < length (cond b (l ∷ []) (chosen x ls) ++ cond b ls (l ∷ others x ls))) [ true ↦ omega arith | false ↦ more (chosen x ls) (others x ls) ]
@@ -249,6 +259,7 @@ some_brought x (l ∷ ls) i = elim (eqb l.line x) as (λ b. 0 < length (cond b (
     more [] rest = omega arith
     more (k ∷ ks) rest = omega arith
 
+-- Bringing the line in front changes nothing.
 pub touched_first : (x p : ℕ) (ls : List Line) → p ≡ 0 → IsFirst x p ls → ls ≡ brought x ls
 touched_first x zero [] e f = absurd (let w = f.within in let h : ⊥ = omega arith in h)
 touched_first x zero (l ∷ ls) e f = brought_at x 0 (l ∷ ls) l f

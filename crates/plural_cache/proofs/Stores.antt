@@ -20,7 +20,7 @@ look_updated_other : (x w v y : ℕ) (ls : List Line) → eqb x y ≡ false → 
 look_updated_other x w v y [] e = refl
 look_updated_other x w v y (l ∷ ls) e = let more = look_updated_other x w v y ls in grind (arith, nat_tests, more)
 
--- what P says of the old words, Q says of the new
+-- What P says of the old words, Q says of the new.
 look_updated : (x w v : ℕ) (ls : List Line) (P Q : List ℕ → Type 0) → ((ws : List ℕ) → P ws → length ws ≡ 8 → Q (set ws w v)) → IfSome (look x ls) P → IfSome (look x ls) (λ ws. length ws ≡ 8) → IfSome (look x (updated x w v ls)) Q
 look_updated x w v [] P Q f p e = tt
 look_updated x w v (l ∷ ls) P Q f p e =
@@ -99,7 +99,7 @@ module _ (c : CacheValue) (ok : IsCache c) (a v : ℕ) (was new : List Line) (th
             (bool_cases (eqb (a / 8) (b / 8)));
       }
 
--- the same, at a place that is the set's number
+-- The same, at a place that is the set's number.
 module _ (c : CacheValue) (ok : IsCache c) (a v s : ℕ) (at : s ≡ a / 8 % c.sets) (was new : List Line) (there : was ≡ get_or c.held s was) (order : new ≡ updated (a / 8) (a % 8) v was) where
   pub store_stands : (n : ℕ) (h : List ℕ) → StandsFor c h → StandsFor (record c { held = set c.held s new; stores = n }) h
   store_stands n h f =
@@ -116,7 +116,7 @@ empty_set zero s = refl
 empty_set (suc n) zero = refl
 empty_set (suc n) (suc s) = empty_set n s
 
-pub fresh_is : (sets ways : ℕ) → IsFresh (fresh sets ways) sets ways
+fresh_is : (sets ways : ℕ) → IsFresh (fresh sets ways) sets ways
 fresh_is sets ways =
     record {
       is = refl;
@@ -130,13 +130,13 @@ fresh_is sets ways =
       };
     }
 
-pub replicate_more : (n : ℕ) (ls : List Line) → replicate (n + 1) ls ≡ replicate n ls ++ ls ∷ []
+replicate_more : (n : ℕ) (ls : List Line) → replicate (n + 1) ls ≡ replicate n ls ++ ls ∷ []
 replicate_more n ls = ap (λ k. replicate k ls) (let e : n + 1 ≡ suc n = omega arith in e) ∙ more n ls
   where
     more : (n : ℕ) (ls : List Line) → replicate (suc n) ls ≡ replicate n ls ++ ls ∷ []
     more zero ls = refl
     more (suc n) ls = ap (λ (r : List (List Line)). ls ∷ r) (more n ls)
 
--- a table of empty sets
+-- A table of empty sets.
 pub fresh_table : (sets ways : ℕ) (t : List (List Line)) → t ≡ replicate sets [] → IsFresh (record { sets = sets; ways = ways; held = t; loads = 0; misses = 0; stores = 0 }) sets ways
 fresh_table sets ways t e = subst (λ (t : List (List Line)). IsFresh (record { sets = sets; ways = ways; held = t; loads = 0; misses = 0; stores = 0 }) sets ways) (sym e) (fresh_is sets ways)

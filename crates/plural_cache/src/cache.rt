@@ -1,5 +1,5 @@
 //! The cache and its four calls.
-ghost use Rattle.std.specs.Prelude.{◌≡◌, ℕ, ◌+◌, ◌-◌, ◌*◌, ◌/◌, ◌%◌, ◌<◌, ◌≤◌, ◌^◌, List, [], ◌∷◌, ◌++◌, length, true, false, slice_index, replicate, if◌then◌else◌, IfOk};
+ghost use Rattle.std.specs.Prelude.{◌≡◌, ℕ, ◌+◌, ◌-◌, ◌*◌, ◌/◌, ◌%◌, ◌<◌, ◌≤◌, ◌^◌, List, [], ◌∷◌, ◌++◌, length, true, slice_index, replicate, if◌then◌else◌, IfOk};
 ghost use Rattle.plural_cache.specs.Bus.{Reads, Writes};
 ghost use Rattle.plural_base.specs.Told.{IsNext};
 ghost use Rattle.plural_cache.specs.Miss.{hits, misses_of};

@@ -11,7 +11,7 @@ use Rattle.plural_core.specs.Act.{act, Act, effect, by_row, next, get}
 use Rattle.plural_core.specs.Execution.{effect_of}
 use Rattle.plural_isa.specs.declared.instr.Instr.{Instr}
 
-pub same_effect : (m : Mnemonic) (w : ℕ) (x : List ℕ) (pc : ℕ) → w < 2 ^ 32 → effect_of (instr_of m w) x pc ≡ effect m w x pc
+same_effect : (m : Mnemonic) (w : ℕ) (x : List ℕ) (pc : ℕ) → w < 2 ^ 32 → effect_of (instr_of m w) x pc ≡ effect m w x pc
 unfolding effect_of
 same_effect table.Lui w x pc h = ap (λ v. next x pc (rd w) v) (omega arith)
 same_effect table.Auipc w x pc h = refl
@@ -62,7 +62,7 @@ same_effect table.Fence w x pc h = refl
 same_effect table.Ecall w x pc h = refl
 same_effect table.Ebreak w x pc h = refl
 
--- what a word that decodes does, and one that does not
+-- What a word that decodes does, and one that does not.
 pub same_act : (w : ℕ) (x : List ℕ) (pc : ℕ) (i : Instr) → w < 2 ^ 32 → decoded w ≡ Some i → by_row (row_of w) w x pc ≡ effect_of i x pc
 same_act w x pc i h e =
     elim (row_of w) as (λ o. row_of w ≡ o → from_row w o ≡ Some i → by_row o w x pc ≡ effect_of i x pc) [
@@ -70,14 +70,14 @@ same_act w x pc i h e =
       | Some r ↦ (λ p q. let s : instr_of r.mnemonic w ≡ i = cc in sym (same_effect r.mnemonic w x pc h) ∙ ap (λ j. effect_of j x pc) s)
     ] refl e
 
-pub no_act : (w : ℕ) (x : List ℕ) (pc : ℕ) → decoded w ≡ None → by_row (row_of w) w x pc ≡ a.Trap 2
+no_act : (w : ℕ) (x : List ℕ) (pc : ℕ) → decoded w ≡ None → by_row (row_of w) w x pc ≡ a.Trap 2
 no_act w x pc e =
     elim (row_of w) as (λ o. from_row w o ≡ None → by_row o w x pc ≡ a.Trap 2) [
       | None ↦ (λ q. refl)
       | Some r ↦ (λ q. cc)
     ] e
 
--- what the code's word at pc does, where it decodes
+-- What the code's word at pc does, where it decodes.
 pub act_is : (code x : List ℕ) (pc w : ℕ) (i : Instr) → pc < 4 * length code → w ≡ slice_index code (pc / 4) → w < 2 ^ 32 → decoded w ≡ Some i → act code x pc ≡ effect_of i x pc
 unfolding act
 act_is code x pc w i h e f d = let t : ltb pc (4 * length code) ≡ true = grind (arith, nat_tests) in rw (t, ← e) (same_act w x pc i f d)

@@ -21,7 +21,7 @@ either p false x y u v h k = k
 alike_trap : (p : Place) (s : State) (m n : List ℕ) (cause : ℕ) → Agrees p m n → Alike p (trapped s m cause) (trapped s n cause)
 alike_trap p s m n cause h = record { state = refl; loads = refl; stores = refl; agrees = h }
 
--- a write at one place keeps what is equal at a place
+-- A write at one place keeps what is equal at a place.
 set_at : (m n : List ℕ) (i b v : ℕ) → i < length m → i < length n → slice_index m b ≡ slice_index n b → slice_index (slice_set m i v) b ≡ slice_index (slice_set n i v) b
 set_at m n i b v h k e = ⊎_elim
     (λ (q : b ≡ i). get_or-set_at m i b v 0 q h ∙ sym (get_or-set_at n i b v 0 q k))
@@ -65,7 +65,7 @@ alike_does p s m n a.Finish h =
     either p (nat_le (get s.registers 10) 1) _ (trapped s m 9) _ (trapped s n 9) (λ _. record { state = refl; loads = refl; stores = refl; agrees = h }) (alike_trap p s m n 9 h)
 alike_does p s m n (a.Trap cause) h = alike_trap p s m n cause h
 
-pub alike_turn : (p : Place) (s : State) (m n : List ℕ) → Agrees p m n → Alike p (turn p s m) (turn p s n)
+alike_turn : (p : Place) (s : State) (m n : List ℕ) → Agrees p m n → Alike p (turn p s m) (turn p s n)
 unfolding turn
 alike_turn p s m n h = alike_does p s m n (act p.code s.registers s.pc) h
 
@@ -81,6 +81,7 @@ alike_unless : (p : Place) (o : Option End) (x y u v : Step) → Alike p x u →
 alike_unless p None x y u v h k = h
 alike_unless p (Some e) x y u v h k = k
 
+-- Over two memories that agree on what the instance may read, its lives are alike.
 pub alike_life : (i : ℕ) (p : Place) (s : State) (m n : List ℕ) → Agrees p m n → Alike p (life i p s m) (life i p s n)
 unfolding life
 alike_life zero p s m n h = record { state = refl; loads = refl; stores = refl; agrees = h }

@@ -14,7 +14,7 @@ use Rattle.plural_core.specs.declared.subword.Width.{Width}
 use Rattle.plural_core.specs.declared.subword.Width.TheVariants.{Byte, Half, Word}
 use Rattle.plural_regions.proofs.Regions.{may_read_from_write}
 
--- a property of the one element of a list
+-- A property of the one element of a list.
 all_one : {X : Type 0} (P : X → Type 0) (x : X) → P x → All P (x ∷ [])
 all_one P x h zero d l = h
 all_one P x h (suc k) d l = absurd (omega arith)
@@ -23,7 +23,7 @@ either : (p : Place) (b : Bool) (x y : Step) → (b ≡ true → IsGuarded p x) 
 either p true x y h k = h refl
 either p false x y h k = k
 
--- a step without accesses
+-- A step without accesses.
 untouched : (p : Place) (s : State) (m : List ℕ) → IsGuarded p (stay s m)
 untouched p s m = record { loads = All-nil _; stores = All-nil _ }
 
@@ -51,7 +51,7 @@ guarded_does p s m a.Finish =
     either p (nat_le (get s.registers 10) 1) _ (trapped s m 9) (λ _. record { loads = All-nil _; stores = All-nil _ }) (record { loads = All-nil _; stores = All-nil _ })
 guarded_does p s m (a.Trap cause) = record { loads = All-nil _; stores = All-nil _ }
 
-pub guarded_turn : (p : Place) (s : State) (m : List ℕ) → IsGuarded p (turn p s m)
+guarded_turn : (p : Place) (s : State) (m : List ℕ) → IsGuarded p (turn p s m)
 unfolding turn
 guarded_turn p s m = guarded_does p s m (act p.code s.registers s.pc)
 
@@ -65,6 +65,7 @@ guarded_unless : (p : Place) (o : Option End) (x y : Step) → IsGuarded p x →
 guarded_unless p None x y h k = h
 guarded_unless p (Some e) x y h k = k
 
+-- A life touches only what the instance may.
 pub guarded_life : (i : ℕ) (p : Place) (s : State) (m : List ℕ) → IsGuarded p (life i p s m)
 unfolding life
 guarded_life zero p s m = untouched p s m

@@ -16,16 +16,16 @@ use Rattle.plural_core.specs.declared.hart.Turn.TheVariants as outcome
 use Rattle.plural_core.specs.declared.subword.Width.{Width}
 use Rattle.plural_core.specs.declared.subword.Width.TheVariants.{Byte, Half, Word}
 
-pub life_going : (n : ℕ) (p : Place) (s : State) (m : List ℕ) → s.over ≡ None → life (suc n) p s m ≡ join (turn p s m) (life n p (turn p s m).state (turn p s m).memory)
+life_going : (n : ℕ) (p : Place) (s : State) (m : List ℕ) → s.over ≡ None → life (suc n) p s m ≡ join (turn p s m) (life n p (turn p s m).state (turn p s m).memory)
 unfolding life
 life_going n p s m h = rw h refl
 
-pub life_over : (n : ℕ) (p : Place) (s : State) (m : List ℕ) (e : End) → s.over ≡ Some e → life n p s m ≡ stay s m
+life_over : (n : ℕ) (p : Place) (s : State) (m : List ℕ) (e : End) → s.over ≡ Some e → life n p s m ≡ stay s m
 unfolding life
 life_over zero p s m e h = refl
 life_over (suc n) p s m e h = rw h refl
 
--- a turn that goes on has counted one, and makes at most one access of each kind
+-- A turn that goes on has counted one, and makes at most one access of each kind.
 pub record IsFine (b : ℕ) (s : State) (m : List ℕ) (t : Step) : Type 0 where
   pub below : t.state.over ≡ None → t.state.count ≢ b
   pub goes : t.state.over ≡ None → t.state.count ≡ s.count + 1
@@ -40,7 +40,7 @@ either n s m false x y h k = k
 spent_same : (b c : ℕ) → c ≡ b → spent b c ≡ None → ⊥
 spent_same b c e h = let t : (c == b) ≡ true = grind (arith, nat_tests) in (let k = rw t at h in (cc))
 
--- a count that is not spent is not the budget
+-- A count that is not spent is not the budget.
 not_spent : (b c : ℕ) → spent b c ≡ None → c ≢ b
 not_spent b c h = λ e. absurd (spent_same b c e h)
 
@@ -66,41 +66,42 @@ fine_does p s m a.Finish =
     either p.budget s m (nat_le (get s.registers 10) 1) _ (trapped s m 9) (record { below = λ h. cc; goes = λ h. cc; few_loads = omega arith; few_stores = omega arith; words = refl }) (fine_trap p.budget s m 9)
 fine_does p s m (a.Trap cause) = fine_trap p.budget s m cause
 
+-- So it is of every turn.
 pub fine_turn : (p : Place) (s : State) (m : List ℕ) → IsFine p.budget s m (turn p s m)
 unfolding turn
 fine_turn p s m = fine_does p s m (act p.code s.registers s.pc)
 
-pub after-after : (i j : ℕ) (e : Option (List (ℕ × ℕ))) → after j (after i e) ≡ after (i + j) e
+after-after : (i j : ℕ) (e : Option (List (ℕ × ℕ))) → after j (after i e) ≡ after (i + j) e
 after-after i j None = refl
 after-after i j (Some stores) = ap Some (drop-drop j i stores)
 
-pub join_assoc : (a b c : Step) → join (join a b) c ≡ join a (join b c)
+join_assoc : (a b c : Step) → join (join a b) c ≡ join a (join b c)
 join_assoc a b c = rw (append_assoc, append_assoc) refl
 
-pub join_stay : (t : Step) → join t (stay t.state t.memory) ≡ t
+join_stay : (t : Step) → join t (stay t.state t.memory) ≡ t
 join_stay t = rw (append-nil, append-nil) refl
 
--- a life of at least one turn
+-- A life of at least one turn.
 pub life_split : (b : ℕ) (p : Place) (s : State) (m : List ℕ) → s.over ≡ None → s.count < b → life (b - s.count) p s m ≡ join (turn p s m) (life (b - (s.count + 1)) p (turn p s m).state (turn p s m).memory)
 life_split b p s m h l = let e : b - s.count ≡ suc (b - (s.count + 1)) = omega arith in rw e (life_going (b - (s.count + 1)) p s m h)
 
--- one whose first turn goes on
+-- One whose first turn goes on.
 pub life_on : (b : ℕ) (p : Place) (s : State) (m : List ℕ) → s.over ≡ None → s.count < b → (turn p s m).state.over ≡ None → life (b - s.count) p s m ≡ join (turn p s m) (life (b - (turn p s m).state.count) p (turn p s m).state (turn p s m).memory)
 life_on b p s m h l g = let e = (fine_turn p s m).goes g in rw e (life_split b p s m h l)
 
--- one whose first turn is the last
+-- One whose first turn is the last.
 pub life_last : (b : ℕ) (p : Place) (s : State) (m : List ℕ) (e : End) → s.over ≡ None → s.count < b → (turn p s m).state.over ≡ Some e → life (b - s.count) p s m ≡ turn p s m
 life_last b p s m e h l g =
     life_split b p s m h l
     ∙ ap (join (turn p s m)) (life_over (b - (s.count + 1)) p (turn p s m).state (turn p s m).memory e g)
     ∙ join_stay (turn p s m)
 
--- the stores expected begin with those of the first turn
+-- The stores expected begin with those of the first turn.
 pub foreseen : (b : ℕ) (p : Place) (s : State) (m : List ℕ) (e : Option (List (ℕ × ℕ))) → s.over ≡ None → s.count < b → Expects e (life (b - s.count) p s m).stores → Foresees e (turn p s m).stores
 foreseen b p s m None h l x = tt
 foreseen b p s m (Some stores) h l x = ((life (b - (s.count + 1)) p (turn p s m).state (turn p s m).memory).stores, x ∙ ap (λ t. t.stores) (life_split b p s m h l))
 
--- and go on with those of the rest
+-- And go on with those of the rest.
 pub expected_on : (b : ℕ) (p : Place) (s : State) (m : List ℕ) (e : Option (List (ℕ × ℕ))) → s.over ≡ None → s.count < b → (turn p s m).state.over ≡ None → Expects e (life (b - s.count) p s m).stores → Expects (after (length (turn p s m).stores) e) (life (b - (turn p s m).state.count) p (turn p s m).state (turn p s m).memory).stores
 expected_on b p s m None h l g x = tt
 expected_on b p s m (Some stores) h l g x =
@@ -165,14 +166,17 @@ module _ {P : Type 0} (told : P → Told) (counts : P → Counted) (stands_for :
       let same : join d t ≡ all = ap (join d) (sym (life_last b p s (told y).words e h l g)) ∙ q in
       (subst (λ (a : Step). Made x z a) same (joined both x y z d t made k), ap (λ a. a.state) (sym same))
 
+-- A turn that answers Going left no end.
 pub going_none : (o : Option End) → outcome_of o ≡ outcome.Going → o ≡ None
 going_none None h = refl
 going_none (Some e) h = cc
 
+-- A turn that answers an end left this end.
 pub over_some : (o : Option End) (e : End) → outcome_of o ≡ outcome.Over e → o ≡ Some e
 over_some None e h = cc
 over_some (Some x) e h = cc
 
+-- A core is the record of its parts.
 pub core_is : (x : Core) (s : State) (k b : ℕ) → x.state ≡ s → x.k ≡ k → x.budget ≡ b → x ≡ record { state = s; k = k; budget = b }
 core_is x s k b p q r = rw (← p, ← q, ← r) refl
 
@@ -180,13 +184,13 @@ kept : (o : Option End) (x y : Step) (m : List ℕ) → length x.memory ≡ leng
 kept None x y m h k = h
 kept (Some e) x y m h k = k
 
--- a life keeps the number of words
+-- A life keeps the number of words.
 pub words_kept : (n : ℕ) (p : Place) (s : State) (m : List ℕ) → length (life n p s m).memory ≡ length m
 unfolding life
 words_kept zero p s m = refl
 words_kept (suc n) p s m = kept s.over (join (turn p s m) (life n p (turn p s m).state (turn p s m).memory)) (stay s m) m (words_kept n p (turn p s m).state (turn p s m).memory ∙ (fine_turn p s m).words) refl
 
--- the rest of a life that goes on, up to the budget, has an end
+-- The rest of a life that goes on, up to the budget, has an end.
 pub life_ends : (n : ℕ) (p : Place) (s : State) (m : List ℕ) → s.over ≡ None → s.count + n ≡ p.budget → 0 < n → (e : End) × ((life n p s m).state.over ≡ Some e)
 life_ends zero p s m o c h = absurd (omega arith)
 life_ends (suc n) p s m o c h =

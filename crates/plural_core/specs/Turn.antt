@@ -78,7 +78,7 @@ abbrev pub code_of : ℕ → End
 code_of zero = end.Code0
 code_of (suc n) = end.Code1
 
--- ecall ends the instance with code x10 where that is 0 or 1, and counts one; else it traps with cause 9.
+-- Ecall ends the instance with code x10 where that is 0 or 1, and counts one; else it traps with cause 9.
 abbrev pub finished : State → List ℕ → Step
 finished s m =
     if nat_le (get s.registers 10) 1 then

@@ -1,6 +1,6 @@
 //! The arithmetic of RV32IM on words. (RV32I 2.1, section 2.4; M 2.0.)
-ghost use Rattle.std.specs.Prelude.{◌≡◌, ℕ, ◌+◌, ◌-◌, ◌*◌, ◌/◌, ◌%◌, ◌^◌, ◌<◌, ◌≤◌};
-ghost use Rattle.plural_core.specs.Arithmetic.{signed, word, sum_of, difference_of, left_of, right_of, signed_right_of, is_below_signed, product_of, mulh_of, mulhsu_of, mulhu_of, div_of, rem_of, divu_of, remu_of};
+ghost use Rattle.std.specs.Prelude.{◌≡◌, ◌-◌, ◌*◌, ◌/◌, ◌%◌, ◌<◌};
+ghost use Rattle.plural_core.specs.Arithmetic.{sum_of, difference_of, left_of, right_of, signed_right_of, is_below_signed, product_of, mulh_of, mulhsu_of, mulhu_of, div_of, rem_of, divu_of, remu_of};
 
 /// ADD and ADDI: the sum modulo 2^32.
 #[inline(always)]

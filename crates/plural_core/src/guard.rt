@@ -1,6 +1,6 @@
 //! The guard of loads and stores.
-ghost use Rattle.std.specs.Prelude.{◌≡◌, ◌<◌, ◌&&◌, ℕ, true, false, length, is_some, slice_index, IfSome};
-ghost use Rattle.plural_regions.specs.Rights.{is_in, is_write, may_read, may_write};
+ghost use Rattle.std.specs.Prelude.{◌≡◌, ◌<◌, ◌&&◌, ℕ, true, false, is_some, IfSome};
+ghost use Rattle.plural_regions.specs.Rights.{may_read, may_write};
 ghost use Rattle.plural_core.specs.Recent.{Passes, IsRecent};
 
 use plural_regions::{Mode, Region, Window};

@@ -1,12 +1,11 @@
 //! The core: one instance's registers, pc and count, and its turn.
-ghost use Rattle.std.specs.Prelude.{◌≡◌, ℕ, ◌+◌, ◌-◌, ◌*◌, ◌/◌, ◌%◌, ◌^◌, ◌<◌, ◌≤◌, List, length, Option, None, true, slice_index, EachIndex};
+ghost use Rattle.std.specs.Prelude.{◌≡◌, ℕ, ◌+◌, ◌-◌, ◌*◌, ◌/◌, ◌%◌, ◌<◌, ◌≤◌, Option, None, true, slice_index};
 ghost use Rattle.plural_regions.specs.Rights.{may_read, may_write};
-ghost use Rattle.plural_core.specs.Subword.{size_of};
-ghost use Rattle.plural_core.specs.Act.{get, put, act};
+ghost use Rattle.plural_core.specs.Act.{put, act};
 ghost use Rattle.plural_core.specs.Execution.{seen};
 ghost use Rattle.plural_core.specs.Port.{Makes};
 ghost use Rattle.plural_base.specs.Told.{Foresees};
-ghost use Rattle.plural_core.specs.Turn.{Core, State, going, trapped, finished, loaded, stored, place_of, turn_of, outcome_of};
+ghost use Rattle.plural_core.specs.Turn.{Core, going, finished, place_of, turn_of, outcome_of};
 
 use crate::end::End;
 use crate::execute::{Action, Load, Store, execute, register};
@@ -79,15 +78,14 @@ fn action(code: &Code, registers: &[u32; 32], pc: u32) -> Action
 }
 
 impl Hart {
-    ghost use Rattle.std.specs.Prelude.{◌≡◌, ◌<◌, ◌≤◌, ◌+◌, ◌-◌, ℕ, true, List, [], length, None, Some, slice_index};
+    ghost use Rattle.std.specs.Prelude.{◌≡◌, ◌<◌, ◌≤◌, ◌+◌, ◌-◌, ℕ, true, [], None, Some, slice_index};
     ghost use Rattle.plural_regions.specs.Rights.{may_read, may_write};
     ghost use Rattle.plural_core.specs.Recent.{IsRecent};
     ghost use Rattle.plural_core.specs.Port.{Makes};
     ghost use Rattle.plural_base.specs.Told.{Foresees};
     ghost use Rattle.plural_core.specs.declared.end.End.TheVariants.{Trap as trap};
     ghost use Rattle.plural_core.specs.Act.{put, act, Read, Write, Go, Finish};
-    ghost use Rattle.plural_core.specs.Arithmetic.{sum_of};
-    ghost use Rattle.plural_core.specs.Turn.{going, trapped, finished, outcome_of, place_of, does, turn_of, start_of};
+    ghost use Rattle.plural_core.specs.Turn.{going, finished, outcome_of, place_of, does, turn_of, start_of};
 
     /// The start of an instance: pc at the entry, x10 = k, x11 = q, all other registers 0.
     #[inline(always)]

@@ -1,5 +1,5 @@
 //! Bytes and halves of a word. (RV32I 2.1, section 2.6, little-endian.)
-ghost use Rattle.std.specs.Prelude.{◌≡◌, ℕ, ◌+◌, ◌-◌, ◌*◌, ◌/◌, ◌%◌, ◌^◌, ◌<◌, ◌≤◌};
+ghost use Rattle.std.specs.Prelude.{◌≡◌, ◌+◌, ◌-◌, ◌*◌, ◌/◌, ◌%◌, ◌<◌, ◌≤◌};
 ghost use Rattle.plural_core.specs.Subword.{size_of, part_of, merged, byte_at, widened};
 
 /// How much of a word an access reads or writes.

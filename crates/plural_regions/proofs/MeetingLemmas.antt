@@ -63,14 +63,16 @@ reach_back r s k l h = let begins = h.begins in let ends = h.ends in record { be
 
 -- ---- the first instance that reaches
 
+-- A region all of whose words lie below the start never reaches it.
 pub reach_none_outside : (r : Region) (start count low q : ℕ) → ((k : ℕ) → IsInside r k start) → NeverReaches r start count low q
 reach_none_outside r start count low q h = λ l p b reaches. let e = inside_end r l start (h l) in let ends = reaches.ends in omega arith
 
--- An instance that reaches isn't before the first that ends behind the start.
+-- An instance that reaches isn't before the first that ends after the start.
 not_before : (r : Region) (start count first j : ℕ) → AllInside r first start → Reaches r start count j → first ≤ j
 not_before r start count first j inside h = ⊎_elim
     (λ (l : j < first). let e = inside_end r j start (inside j l) in let ends = h.ends in absurd (omega arith)) (λ (l : first ≤ j). l) (cases_lt j first)
 
+-- The first instance that reaches the words is the later of the first outside and the lowest that counts.
 pub reach_found : (r : Region) (start count low q first l : ℕ) → IsOutside r first start → AllInside r first start → l ≡ max first low → l < q → r.base + r.stride * l < start + count
     → IsFirstReaching r start count low q l
 reach_found r start count low q first l outside inside e below begins =
@@ -83,19 +85,23 @@ reach_found r start count low q first l outside inside e below begins =
       least = λ j p h. let b = not_before r start count first j inside h in omega arith;
     }
 
+-- If that instance is past the last, none reaches the words.
 pub reach_none_late : (r : Region) (start count low q first l : ℕ) → AllInside r first start → l ≡ max first low → q ≤ l → NeverReaches r start count low q
 reach_none_late r start count low q first l inside e late = λ j p b h. let n = not_before r start count first j inside h in omega arith
 
+-- If the words end before the region begins, none reaches them.
 pub reach_none_begins : (r : Region) (start count low q first l : ℕ) → AllInside r first start → l ≡ max first low → start + count ≤ r.base + r.stride * l → NeverReaches r start count low q
 reach_none_begins r start count low q first l inside e late = λ j p b h.
     let n = not_before r start count first j inside h in let later = later_start r l j (omega arith) in let begins = h.begins in omega arith
 
 -- ---- the meetings of one instance
 
+-- If no instance of the second region reaches those words, the instance of the first meets none.
 pub at_none : (r s : Region) (q1 q2 : ℕ) (same : Bool) (k low : ℕ) → (same ≡ true → low ≡ k + 1) → (same ≡ false → low ≡ 0) → NeverReaches s (r.base + r.stride * k) r.count low q2 → NeverAt r q1 s q2 same k
 at_none r s q1 q2 true k low one other none = λ l a m. let e = one refl in let o = m.in_order refl in none l (omega arith) m.second_below (reach_of r s q1 q2 true k l a m)
 at_none r s q1 q2 false k low one other none = λ l a m. let e = other refl in none l (omega arith) m.second_below (reach_of r s q1 q2 false k l a m)
 
+-- The first that reaches those words is the first that the instance meets.
 pub at_found : (r s : Region) (q1 q2 : ℕ) (same : Bool) (k low l : ℕ) → (same ≡ true → low ≡ k + 1) → (same ≡ false → low ≡ 0) → k < q1
     → IsFirstReaching s (r.base + r.stride * k) r.count low q2 l → IsLeastAt r q1 s q2 same k l (max (r.base + r.stride * k) (s.base + s.stride * l))
 at_found r s q1 q2 true k low l one other below h =
@@ -159,9 +165,10 @@ still_start s l e = let f : s.stride * l ≡ 0 * l = ap (λ (z : ℕ). z * l) e 
 still_reach : (r s : Region) (q1 q2 : ℕ) (k l a : ℕ) → s.stride ≡ 0 → Meets r q1 s q2 false k l a → Reaches r s.base s.count k
 still_reach r s q1 q2 k l a e m = subst (λ (x : ℕ). Reaches r x s.count k) (still_start s l e) (reach_back r s k l (reach_of r s q1 q2 false k l a m))
 
-pub still_none : (r s : Region) (q1 q2 : ℕ) → s.stride ≡ 0 → NeverReaches r s.base s.count 0 q1 → NeverMeet r q1 s q2 false
+still_none : (r s : Region) (q1 q2 : ℕ) → s.stride ≡ 0 → NeverReaches r s.base s.count 0 q1 → NeverMeet r q1 s q2 false
 still_none r s q1 q2 e none = λ k l a m. none k (omega arith) m.first_below (still_reach r s q1 q2 k l a e m)
 
+-- A region without a stride is met by the first instance that reaches its words.
 pub still_found : (r s : Region) (q1 q2 k : ℕ) → s.stride ≡ 0 → IsFirstReaching r s.base s.count 0 q1 k → IsCandidate r q1 s q2 false k
 still_found r s q1 q2 k e h = record {
   below = h.below;
@@ -173,18 +180,20 @@ still_found r s q1 q2 k e h = record {
 
 -- ---- candidates by remainders
 
--- An instance that meets any ends behind the other region's first word.
-ends_behind : (r s : Region) (q1 q2 : ℕ) (k l a : ℕ) → Meets r q1 s q2 false k l a → s.base < r.base + r.stride * k + r.count
-ends_behind r s q1 q2 k l a m = let h = reach_of r s q1 q2 false k l a m in let begins = h.begins in omega arith
+-- An instance that meets any ends after the other region's first word.
+ends_after : (r s : Region) (q1 q2 : ℕ) (k l a : ℕ) → Meets r q1 s q2 false k l a → s.base < r.base + r.stride * k + r.count
+ends_after r s q1 q2 k l a m = let h = reach_of r s q1 q2 false k l a m in let begins = h.begins in omega arith
 
+-- If all instances of the first region lie below the second, none meet.
 pub apart_none_inside : (r s : Region) (q1 q2 : ℕ) → ((k : ℕ) → IsInside r k s.base) → NeverMeet r q1 s q2 false
-apart_none_inside r s q1 q2 inside = λ k l a m. let e = ends_behind r s q1 q2 k l a m in let f = inside_end r k s.base (inside k) in omega arith
+apart_none_inside r s q1 q2 inside = λ k l a m. let e = ends_after r s q1 q2 k l a m in let f = inside_end r k s.base (inside k) in omega arith
 
 -- It isn't before the first that does.
 from_low : (r s : Region) (q1 q2 low : ℕ) (k l a : ℕ) → AllInside r low s.base → Meets r q1 s q2 false k l a → low ≤ k
 from_low r s q1 q2 low k l a inside m = ⊎_elim
-    (λ (h : k < low). let e = ends_behind r s q1 q2 k l a m in let f = inside_end r k s.base (inside k h) in absurd (omega arith)) (λ (h : low ≤ k). h) (cases_lt k low)
+    (λ (h : k < low). let e = ends_after r s q1 q2 k l a m in let f = inside_end r k s.base (inside k h) in absurd (omega arith)) (λ (h : low ≤ k). h) (cases_lt k low)
 
+-- If the first instance that leaves that room is past the last, none meet.
 pub apart_none_late : (r s : Region) (q1 q2 low : ℕ) → AllInside r low s.base → q1 ≤ low → NeverMeet r q1 s q2 false
 apart_none_late r s q1 q2 low inside late = λ k l a m. let f = from_low r s q1 q2 low k l a inside m in let b = m.first_below in omega arith
 
@@ -195,21 +204,22 @@ leaves z d m j low high =
     let f : z % m ≡ (z - m * j) % m = ap (λ (x : ℕ). x % m) e ∙ add-mul-mod_self_left (z - m * j) m j in
     omega (arith, f, mod-le (z - m * j) m)
 
--- How far the last word of an instance that stands x behind the first is past the other region's base.
+-- How far the last word of an instance that stands x after the first is past the other region's base.
 past_at : (r s : Region) (low past x : ℕ) → s.base < r.base + r.stride * low + r.count → past ≡ r.base + r.stride * low + r.count - 1 - s.base
     → r.stride * x + past + s.base + 1 ≡ r.base + r.stride * (low + x) + r.count
-past_at r s low past x behind e = omega arith
+past_at r s low past x beyond e = omega arith
 
 -- An instance that meets any leaves a small remainder.
 small_at : (r s : Region) (q1 q2 low past : ℕ) (k l a : ℕ) → s.base < r.base + r.stride * low + r.count → past ≡ r.base + r.stride * low + r.count - 1 - s.base → low ≤ k
     → Meets r q1 s q2 false k l a → (r.stride * (k - low) + past) % s.stride ≤ r.count + s.count - 2
-small_at r s q1 q2 low past k l a behind e from m =
+small_at r s q1 q2 low past k l a beyond e from m =
     let h = reach_of r s q1 q2 false k l a m in let begins = h.begins in let ends = h.ends in
     let some : 1 ≤ r.count = r.nonempty in let more : 1 ≤ s.count = s.nonempty in
-    let f = past_at r s low past (k - low) behind e in
+    let f = past_at r s low past (k - low) beyond e in
     let g : r.stride * (low + (k - low)) ≡ r.stride * k = ap (λ (z : ℕ). r.stride * z) (omega arith) in
     leaves (r.stride * (k - low) + past) (r.count + s.count - 2) s.stride l (omega arith) (omega arith)
 
+-- If no residue falls on a word of the second region, none meet.
 pub apart_none : (r s : Region) (q1 q2 low past : ℕ) → IsOutside r low s.base → AllInside r low s.base → past ≡ r.base + r.stride * low + r.count - 1 - s.base
     → HasNoResidue (q1 - low) r.stride past s.stride (r.count + s.count - 2) → NeverMeet r q1 s q2 false
 apart_none r s q1 q2 low past outside inside e none = λ k l a m.
@@ -219,20 +229,21 @@ apart_none r s q1 q2 low past outside inside e none = λ k l a m.
     let large = none (k - low) (omega arith) in
     omega arith
 
+-- The least residue that falls on a word of the second region gives the first that meet.
 pub apart_found : (r s : Region) (q1 q2 low past x : ℕ) → IsOutside r low s.base → AllInside r low s.base → past ≡ r.base + r.stride * low + r.count - 1 - s.base
     → IsLeastResidue (q1 - low) r.stride past s.stride (r.count + s.count - 2) x → IsCandidate r q1 s q2 false (low + x)
 apart_found r s q1 q2 low past x outside inside e h =
     let within = h.below in
     record { below = omega arith; first = first; met = λ none i j b m. met none i j b m (cases_lt j ((r.stride * x + past) / s.stride)) }
   where
-    behind : s.base < r.base + r.stride * low + r.count
-    behind = outside_end r low s.base outside
+    beyond : s.base < r.base + r.stride * low + r.count
+    beyond = outside_end r low s.base outside
 
     first : (i j b : ℕ) → Meets r q1 s q2 false i j b → low + x ≤ i
     first i j b m = ⊎_elim
         (λ (l : i < low + x).
         let from = from_low r s q1 q2 low i j b inside m in
-        let small = small_at r s q1 q2 low past i j b behind e from m in
+        let small = small_at r s q1 q2 low past i j b beyond e from m in
         let large = h.least (i - low) (omega arith) in
         absurd (omega arith))
         (λ (l : low + x ≤ i). l) (cases_lt i (low + x))
@@ -244,7 +255,7 @@ apart_found r s q1 q2 low past x outside inside e h =
 
     met : NeverAt r q1 s q2 false (low + x) → (i j b : ℕ) → Meets r q1 s q2 false i j b → (j < (r.stride * x + past) / s.stride) ⊎ ((r.stride * x + past) / s.stride ≤ j) → ⊥
     met none i j b m order =
-        let f = past_at r s low past x behind e in
+        let f = past_at r s low past x beyond e in
         let g = div-add-mod (r.stride * x + past) s.stride in
         let small = h.small in
         let some : 1 ≤ r.count = r.nonempty in let more : 1 ≤ s.count = s.nonempty in
@@ -262,10 +273,12 @@ apart_found r s q1 q2 low past x outside inside e h =
 
 -- ---- answers of calls
 
+-- What is said of the value of an Option may be weakened.
 pub if_some : {X : Type 0} (P Q : X → Type 0) (o : Option X) → ((x : X) → P x → Q x) → IfSome o P → IfSome o Q
 if_some P Q None f h = h
 if_some P Q (Some x) f h = f x h
 
+-- What is said of an Option without a value may be weakened.
 pub if_none : {X : Type 0} (P Q : Type 0) (o : Option X) → (P → Q) → IfNone o P → IfNone o Q
 if_none P Q None f h = f h
 if_none P Q (Some x) f h = h

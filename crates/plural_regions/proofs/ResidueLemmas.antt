@@ -12,31 +12,31 @@ reduced a b m x =
     let r : ((a % m * x) % m + b % m) % m ≡ (a % m * x + b % m) % m = mod-add-mod (a % m * x) m (b % m) in
     l ∙ (ap (λ (y : ℕ). (y + b % m) % m) (sym (mul-mod_first a x m)) ∙ r)
 
--- The remainder of what a pass leaves, where v stands x steps behind it.
-left_behind : (s hi v x y : ℕ) → v ≤ hi → y ≡ (hi - v) + s * x → y % s ≤ hi
-left_behind s hi v x y small e =
+-- The remainder of what a pass leaves, where v stands x steps after it.
+left_after : (s hi v x y : ℕ) → v ≤ hi → y ≡ (hi - v) + s * x → y % s ≤ hi
+left_after s hi v x y small e =
     let f : y % s ≡ (hi - v) % s = ap (λ (z : ℕ). z % s) e ∙ add-mul-mod_self_left (hi - v) s x in
     omega (arith, f, mod-le (hi - v) s)
 
--- A number whose remainder is small lies behind a pass of the modulus, and that pass is followed by a small one.
+-- A number whose remainder is small lies after a pass of the modulus, and that pass is followed by a small one.
 pub to_pass : (s b m hi x : ℕ) → hi < b → b < m → (s * x + b) % m ≤ hi → (w : ℕ) × ((w + 1) * m ≤ s * x + b) × ((m * w + (hi + (m - b))) % s ≤ hi)
 to_pass s b m hi x low high small = by_passes ((s * x + b) / m) (div-add-mod (s * x + b) m)
   where
     by_passes : (q : ℕ) → m * q + (s * x + b) % m ≡ s * x + b → (w : ℕ) × ((w + 1) * m ≤ s * x + b) × ((m * w + (hi + (m - b))) % s ≤ hi)
     by_passes zero e = absurd (omega arith)
-    by_passes (suc w) e = (w, omega arith, left_behind s hi ((s * x + b) % m) x (m * w + (hi + (m - b))) small (omega arith))
+    by_passes (suc w) e = (w, omega arith, left_after s hi ((s * x + b) % m) x (m * w + (hi + (m - b))) small (omega arith))
 
--- The first number behind a pass stands less than one step behind it.
-pub first_behind : (s t : ℕ) → 0 < s → 1 ≤ t → (v : ℕ) × (v < s) × (s * ((t - 1) / s + 1) ≡ t + v)
-first_behind s t p h =
+-- The first number after a pass stands less than one step after it.
+pub first_after : (s t : ℕ) → 0 < s → 1 ≤ t → (v : ℕ) × (v < s) × (s * ((t - 1) / s + 1) ≡ t + v)
+first_after s t p h =
     let e = div-add-mod (t - 1) s in
     let l : (t - 1) % s < s = mod_below (t - 1) s p in
     (s - 1 - (t - 1) % s, omega arith, omega arith)
 
--- Where the first number behind a pass stands v behind it and the pass is followed by a small remainder, v is small.
-small_behind : (s hi v x y : ℕ) → v < s → y + v ≡ hi + s * x → 1 ≤ x → y % s ≤ hi → v ≤ hi
-small_behind s hi v zero y l e h small = absurd (omega arith)
-small_behind s hi v (suc x) y l e h small = ⊎_elim (λ (p : hi < v). absurd (large p)) (λ (p : v ≤ hi). p) (cases_lt hi v)
+-- Where the first number after a pass stands v after it and the pass is followed by a small remainder, v is small.
+small_after : (s hi v x y : ℕ) → v < s → y + v ≡ hi + s * x → 1 ≤ x → y % s ≤ hi → v ≤ hi
+small_after s hi v zero y l e h small = absurd (omega arith)
+small_after s hi v (suc x) y l e h small = ⊎_elim (λ (p : hi < v). absurd (large p)) (λ (p : v ≤ hi). p) (cases_lt hi v)
   where
     large : hi < v → ⊥
     large p =
@@ -45,9 +45,9 @@ small_behind s hi v (suc x) y l e h small = ⊎_elim (λ (p : hi < v). absurd (l
         let k : (s - (v - hi)) % s ≡ s - (v - hi) = mod-eq_of_lt (omega arith) in
         omega arith
 
--- The first number behind a pass that is followed by a small remainder has this remainder.
+-- The first number after a pass that is followed by a small remainder has this remainder.
 pub from_pass : (s b m hi w : ℕ) → 0 < s → s < m → hi < b → b < m → (m * w + (hi + (m - b))) % s ≤ hi → (s * (((w + 1) * m - b - 1) / s + 1) + b) % m ≤ hi
-from_pass s b m hi w p below low high small = by_first (first_behind s ((w + 1) * m - b) p (omega arith))
+from_pass s b m hi w p below low high small = by_first (first_after s ((w + 1) * m - b) p (omega arith))
   where
     by_first : (v : ℕ) × (v < s) × (s * (((w + 1) * m - b - 1) / s + 1) ≡ (w + 1) * m - b + v) → (s * (((w + 1) * m - b - 1) / s + 1) + b) % m ≤ hi
     by_first h =
@@ -55,24 +55,24 @@ from_pass s b m hi w p below low high small = by_first (first_behind s ((w + 1) 
         let l : v < s = h.1 in
         let e : s * (((w + 1) * m - b - 1) / s + 1) ≡ (w + 1) * m - b + v = h.2 in
         let x = ((w + 1) * m - b - 1) / s + 1 in
-        let c : v ≤ hi = small_behind s hi v x (m * w + (hi + (m - b))) l (omega arith) (omega arith) small in
+        let c : v ≤ hi = small_after s hi v x (m * w + (hi + (m - b))) l (omega arith) (omega arith) small in
         let f : s * x + b ≡ (w + 1) * m + v = omega arith in
         let g : (s * x + b) % m ≡ v = ap (λ (z : ℕ). z % m) f ∙ mod-mul-add (w + 1) m v (omega arith) in
         omega arith
 
--- The first number behind a pass comes before any other behind it.
+-- The first number after a pass comes before any other after it.
 pub pass_first : (s b m w y : ℕ) → 0 < s → b < m → (w + 1) * m ≤ s * y + b → ((w + 1) * m - b - 1) / s + 1 ≤ y
 pass_first s b m w y p high h =
     let t : (w + 1) * m - b - 1 < y * s = omega arith in
     omega (arith, div_below ((w + 1) * m - b - 1) s y p t)
 
--- A pass that a number below n lies behind is one of those counted.
+-- A pass that a number below n lies after is one of those counted.
 pub pass_counted : (s b m n w x : ℕ) → 0 < m → x < n → (w + 1) * m ≤ s * x + b → w < (s * (n - 1) + b) / m
 pass_counted s b m n w x p l h =
     let k : s * x ≤ s * (n - 1) = mul-le-mul_left s (omega arith) in
     omega (arith, le-div (w + 1) (s * (n - 1) + b) m p (omega arith))
 
--- A pass that is counted has a number below n behind it.
+-- A pass that is counted has a number below n after it.
 pub counted_pass : (s b m n w : ℕ) → w < (s * (n - 1) + b) / m → (w + 1) * m ≤ s * (n - 1) + b
 counted_pass s b m n w h =
     let k : (w + 1) * m ≤ (s * (n - 1) + b) / m * m = mul-le-mul_right m (omega arith) in
@@ -110,7 +110,7 @@ none_passes n a b m hi p low none = λ x l. rw (reduced a b m x) (⊎_elim (λ (
         let i : (m * w.0 + (hi + (m - b % m))) % (a % m) ≤ hi = w.2 in
         omega arith
 
--- The number behind the first pass that is followed by a small remainder is the least with one.
+-- The number after the first pass that is followed by a small remainder is the least with one.
 pub found_pass : (n a b m hi w : ℕ) → 0 < m → 1 ≤ n → hi < b % m → 0 < a % m → IsLeastResidue ((a % m * (n - 1) + b % m) / m) m (hi + (m - b % m)) (a % m) hi w
     → IsLeastResidue n a b m hi (((w + 1) * m - b % m - 1) / (a % m) + 1)
 found_pass n a b m hi w p some low moves first = record {

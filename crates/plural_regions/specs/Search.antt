@@ -8,7 +8,7 @@ pub record Reaches (r : Region) (start count l : ℕ) : Type 0 where
   pub begins : r.base + r.stride * l < start + count
   pub ends : start < r.base + r.stride * l + r.count
 
--- l is the least instance from `low` up to q that has one of the `count` words from `start` on.
+-- L is the least instance from `low` up to q that has one of the `count` words from `start` on.
 pub record IsFirstReaching (r : Region) (start count low q l : ℕ) : Type 0 where
   pub from_low : low ≤ l
   pub below : l < q

@@ -4,7 +4,7 @@ ghost use Rattle.plural_regions.specs.Residue.{IsLeastResidue, HasNoResidue};
 
 /// The least x below `n` with `(a * x + b) % m <= hi`, if there is one.
 ///
-/// The remainders rise by `a` until they pass `m`, and only the first one behind each pass can be small. Which passes
+/// The remainders rise by `a` until they pass `m`, and only the first one after each pass can be small. Which passes
 /// are followed by a small one is the same question with `a` for `m`, and `m` for `a`.
 pub fn least_residue(n: u64, a: u64, b: u64, m: u64, hi: u64) -> Option<u64>
     requires modulus { 1 ≤ m }

@@ -123,6 +123,7 @@ ran_most p m (suc i) h =
     let earlier = ran_most p m i (omega arith) in
     rw (more, fold-append (with_task p) (opening p m) done (t ∷ [])) (omega (arith, adds, uses, earlier))
 
+-- The law of few records.
 pub few_records : FewRecords
 few_records p m limits =
     let tasks = p.map.tasks in

@@ -17,6 +17,7 @@ agrees_at p t k m n limits within below h =
       inside = λ a r. (omega (arith, task.inside k a below r, h.first), omega (arith, task.inside k a below r, h.second));
     }
 
+-- The law of the footprint.
 pub footprint : Footprint
 footprint p t k m n limits within below h =
     let place = place_at p t k in

@@ -1,10 +1,8 @@
-ghost use Rattle.std.specs.Prelude.{◌≡◌, ℕ, ◌+◌, ◌-◌, ◌%◌, ◌<◌, ◌≤◌, List, [], ◌∷◌, ◌++◌, length, map, replicate, true, Some, None, IfOk, OnOk, vec_len, All, IsSome};
-ghost use Rattle.plural_map.specs.Value.{TaskValue};
-ghost use Rattle.plural_map.specs.Limits.{IsTask};
+ghost use Rattle.std.specs.Prelude.{◌≡◌, ◌+◌, ◌-◌, ◌%◌, ◌<◌, ◌≤◌, [], ◌++◌, length, map, Some, None, IfOk, OnOk, All};
 ghost use Rattle.plural_map.specs.Decisions.{HasPredecessors};
 ghost use Rattle.plural_serial.specs.Program.{IsMemory, task_at, life_of};
 ghost use Rattle.plural_serial.specs.Cached.{IsShaped};
-ghost use Rattle.plural_serial.specs.Serial.{Started, end_of, outcome_of, instances, with_task};
+ghost use Rattle.plural_serial.specs.Serial.{end_of, outcome_of, instances};
 ghost use Rattle.plural_serial.specs.Answer.{record_of, IsTaskRun, IsSerial};
 ghost use Rattle.plural_serial.specs.declared.record_.Record.{Record};
 

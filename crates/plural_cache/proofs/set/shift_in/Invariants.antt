@@ -2,7 +2,7 @@ use Rattle.std.proofs.Common.{◌≡◌, ◌∷◌, length}
 use Rattle.std.specs.Prelude.{insert}
 use Rattle.plural_cache.proofs.set.shift_in.Given as goal
 
--- with the carried line put in, they are the old ones behind the new line
+-- With the carried line put in, they are the old ones after the new line.
 abbrev pub invariant-loop-i : goal.invariant-loop-i
 invariant-loop-i l =
     record {

@@ -6,7 +6,7 @@ use Rattle.plural_core.specs.Recent.{IsRecent}
 use Rattle.plural_core.specs.Life.{life, join}
 use Rattle.plural_core.proofs.life.run.Given as goal
 
--- the accesses so far, with those of the life that is left, are those of the whole life
+-- The accesses so far, with those of the life that is left, are those of the whole life.
 abbrev pub invariant-loop-end : goal.invariant-loop-end
 invariant-loop-end g l =
     let P = g.P.DataPort in

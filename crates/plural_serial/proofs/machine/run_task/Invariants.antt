@@ -4,7 +4,7 @@ use Rattle.plural_serial.specs.Serial.{instances, outcome_of, end_of}
 use Rattle.plural_serial.specs.Answer.{record_of}
 use Rattle.plural_serial.proofs.machine.run_task.Given as goal
 
--- the first k instances ran
+-- The first k instances ran.
 abbrev pub invariant-loop-k : goal.invariant-loop-k
 invariant-loop-k l =
     let s = instances l.program l.t l.k l.fn.flat.words in

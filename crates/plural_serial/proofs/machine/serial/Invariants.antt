@@ -5,7 +5,7 @@ use Rattle.plural_serial.proofs.Runs.{IsSoFar}
 use Rattle.plural_serial.proofs.Settled.{HasOutcomes}
 use Rattle.plural_serial.proofs.machine.serial.Given as goal
 
--- the first tasks of the order are decided and run
+-- The first tasks of the order are decided and run.
 abbrev pub invariant-loop-t : goal.invariant-loop-t
 invariant-loop-t l =
     record {
