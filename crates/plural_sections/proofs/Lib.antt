@@ -6,3 +6,7 @@ pub mod PassedErrors
 pub mod ReadLines
 mod Caps
 mod WordTokens
+pub mod Headers
+pub mod TextRules
+pub mod Stages
+pub mod Agreement

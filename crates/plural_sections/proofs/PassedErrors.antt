@@ -21,3 +21,8 @@ pub error_passed : {V K L : Type 0} (of : K → L) (r : Result V (LineError K)) 
     → MatchResult r P Q → IsErrAnd r (λ e. IsRenamed (λ k l. l ≡ of k) e error) → ((e : LineError K) → Q e → R (renamed of e)) → R error
 error_passed of (Ok v) error P Q R m h f = absurd h
 error_passed of (Err e) error P Q R m h f = subst R (sym (renamed_is of e error h)) (f e m)
+
+-- An error that was answered is the one of which this holds.
+pub answered : {V E : Type 0} (r : Result V E) (P : V → Type 0) (Q : E → Type 0) (e : E) → IsErrAnd r (λ x. x ≡ e) → Q e → MatchResult r P Q
+answered (Ok v) P Q e h q = absurd h
+answered (Err x) P Q e h q = subst Q (sym h) q

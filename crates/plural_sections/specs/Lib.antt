@@ -8,3 +8,4 @@ pub mod Errors
 pub mod Numbers
 pub mod Sections
 pub mod Borders
+pub mod Texts
