@@ -1,7 +1,7 @@
 -- Which multiples of a number, shifted by another, leave a small remainder.
 use Rattle.std.specs.Prelude.{ℕ, ◌+◌, ◌*◌, ◌%◌, ◌<◌, ◌≤◌}
 
--- X is the least number below n with (a · x + b) mod m ≤ hi.
+-- The number x is the least below n with (a · x + b) mod m ≤ hi.
 pub record IsLeastResidue (n a b m hi x : ℕ) : Type 0 where
   pub below : x < n
   pub small : (a * x + b) % m ≤ hi
