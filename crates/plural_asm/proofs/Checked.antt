@@ -6,8 +6,8 @@ use Rattle.std.proofs.lemmas.List.{map_more}
 use Rattle.plural_bytes.specs.Lines.{TextLine}
 use Rattle.plural_bytes.specs.declared.lines.Line.{Line}
 use Rattle.plural_bytes.specs.Spelled.{text_line, text_lines}
-use Rattle.plural_bytes.specs.Faults.{IsFaultless, IsFirstFault}
-use Rattle.plural_bytes.proofs.Faulted.{first_fault, faultless_more}
+use Rattle.plural_sections.specs.Faults.{IsFaultless, IsFirstFault}
+use Rattle.plural_sections.proofs.FirstFaults.{first_fault, faultless_more}
 use Rattle.plural_statement.specs.Statement.{label_of, line_of}
 use Rattle.plural_asm.specs.Labels.{words_in, is_option, place_after, place_of, noted}
 use Rattle.plural_asm.specs.Words.{target_offset, words_at, code_of, label_at, labels_of}

@@ -2,7 +2,7 @@
 use Rattle.std.specs.Prelude.{◌≡◌, ℕ, ◌^◌, ◌<◌, ◌≤◌, List, [], ◌∷◌, ◌++◌, length, flat_map, map}
 use Rattle.std.specs.List.{AllByRecursion, enumerate_from}
 use Rattle.plural_bytes.specs.Lines.{TextLine, content_lines}
-use Rattle.plural_bytes.specs.Faults.{IsFaultless}
+use Rattle.plural_sections.specs.Faults.{IsFaultless}
 use Rattle.plural_asm.specs.Rules.{Breaks}
 use Rattle.plural_asm.specs.Words.{code_of, labels_of}
 use Rattle.plural_asm.specs.WordText.{word_text}

@@ -4,3 +4,4 @@ pub mod Words
 pub mod Rules
 pub mod WordText
 pub mod Laws
+pub mod Kinds

@@ -1,7 +1,7 @@
 -- The faults of kernel lines. Labels and targets are looked up in the whole list of lines.
 use Rattle.std.specs.Prelude.{◌≡◌, ℕ, ◌+◌, ◌≤◌, Bool, true, false, ◌||◌, ◌&&◌, List, Option, Some, None, MatchOption, ⊤, length, is_some, is_none, nat_lt, nat_le}
 use Rattle.plural_bytes.specs.Lines.{TextLine}
-use Rattle.plural_bytes.specs.Faults.{IsFirstFault}
+use Rattle.plural_sections.specs.Errors.{Tells}
 use Rattle.plural_statement.specs.Statement.{line_of}
 use Rattle.plural_asm.specs.Labels.{words_in, place_after, place_of}
 use Rattle.plural_asm.specs.Words.{target_offset, labels_of}
@@ -12,8 +12,7 @@ use Rattle.plural_asm.specs.declared.offset.Offset.{Offset}
 use Rattle.plural_asm.specs.declared.offset.Offset.TheVariants.{Unknown, Far, At}
 use Rattle.plural_asm.specs.declared.object.AsmKind.{AsmKind}
 use Rattle.plural_asm.specs.declared.object.AsmKind.TheVariants as kinds
-use Rattle.plural_asm.specs.declared.object.AsmError.{AsmError}
-use Rattle.plural_asm.specs.declared.object.AsmError.TheVariants as error
+use Rattle.plural_sections.specs.declared.line_error.LineError.{LineError}
 
 -- an instruction's number is out of its range
 abbrev pub is_out_of_range : Option Statement → Bool
@@ -69,6 +68,5 @@ IsVerdict earlier here labels line offset r =
     MatchOption r ((k : AsmKind) → HasKind earlier here labels line offset k → ⊥) (λ kind. HasKind earlier here labels line offset kind × ((k : AsmKind) → HasKind earlier here labels line offset k → rank kind ≤ rank k))
 
 -- the first faulty line and its least kind, or want of memory
-abbrev pub Faults : List TextLine → AsmError → Type 0
-Faults lines error.Memory = ⊤
-Faults lines (error.At line kind) = IsFirstFault rank (Breaks lines) lines line kind
+abbrev pub Faults : List TextLine → LineError AsmKind → Type 0
+Faults lines error = Tells rank (Breaks lines) lines error

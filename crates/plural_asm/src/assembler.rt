@@ -2,7 +2,7 @@
 
 ghost use Rattle.std.specs.Prelude.{◌≡◌, ◌≤◌, ◌*◌, ℕ, List, length, IfOk, MatchResult};
 ghost use Rattle.plural_bytes.specs.Spelled.{text_lines};
-ghost use Rattle.plural_bytes.specs.Faults.{IsFaultless};
+ghost use Rattle.plural_sections.specs.Faults.{IsFaultless};
 ghost use Rattle.plural_asm.specs.Words.{code_of, labels_of};
 ghost use Rattle.plural_asm.specs.Rules.{Breaks, Faults};
 

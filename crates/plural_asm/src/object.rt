@@ -1,10 +1,11 @@
 //! What assembling gives: the code with its labels, or the first fault.
 
 ghost use Rattle.std.specs.Prelude.{◌≡◌};
-ghost use Rattle.plural_asm.specs.declared.object.AsmError.TheVariants.{Memory};
+ghost use Rattle.plural_asm.specs.Kinds.{kernel_fault};
 
 use plural_bytes::Name;
 use plural_isa::Code;
+use plural_sections::{Fault, LineError};
 use std::marker::Model;
 
 /// A label and its pc in bytes, four times the number of words before it.
@@ -48,18 +49,18 @@ pub enum AsmKind {
 }
 
 /// Why lines can't be assembled.
-#[derive(Debug, Drop)]
-pub enum AsmError {
-    /// The first faulty line, by its number, and the least of its kinds.
-    At { line: u32, kind: AsmKind },
-    /// Memory ran out.
-    Memory,
-}
+pub type AsmError = LineError<AsmKind>;
 
-impl From<plural_bytes::Memory> for AsmError {
-    ghost from_gives = { λ _ e. e ≡ Memory };
+impl From<AsmKind> for Fault {
+    ghost from_gives = { λ kind fault. fault ≡ kernel_fault kind };
 
-    fn from(_e: plural_bytes::Memory) -> AsmError {
-        AsmError::Memory
+    fn from(kind: AsmKind) -> Fault {
+        match kind {
+            AsmKind::Form => Fault::Form,
+            AsmKind::Number => Fault::Number,
+            AsmKind::Name => Fault::Name,
+            AsmKind::Count => Fault::Count,
+            AsmKind::Reach => Fault::Reach,
+        }
     }
 }

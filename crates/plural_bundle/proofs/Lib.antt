@@ -1,6 +1,3 @@
-pub mod Cut
-pub mod Bordered
-pub mod Behind
 pub mod Staged
 pub mod Sectioned
 pub mod Named

@@ -5,11 +5,10 @@ use Rattle.std.specs.List.{AllByRecursion, position_or_len}
 use Rattle.std.proofs.lemmas.Slice.Eq.{bytes_eq-Decides}
 use Rattle.std.proofs.lemmas.Bool.{true≢false}
 use Rattle.plural_bytes.specs.Lines.{TextLine, has_text}
-use Rattle.plural_bytes.specs.Faults.{IsFaultless}
-use Rattle.plural_bytes.proofs.Faulted.{faultless_push}
+use Rattle.plural_sections.specs.Faults.{IsFaultless, closed}
+use Rattle.plural_sections.proofs.FirstFaults.{faultless_push}
 use Rattle.plural_base.proofs.ListTests.{none_before, before_at, all_back}
 use Rattle.plural_map_text.specs.Rules as map
-use Rattle.plural_map_text.specs.Rules.{closed}
 use Rattle.plural_map_text.specs.Parts.{map_of}
 use Rattle.plural_asm.specs.Rules as asm
 use Rattle.plural_asm.specs.Labels.{names_of}
@@ -17,17 +16,21 @@ use Rattle.plural_asm.specs.Words.{code_of, labels_of}
 use Rattle.plural_image.specs.Image as image
 use Rattle.plural_image.specs.Image.{image_of}
 use Rattle.plural_bundle.specs.Value.{program_with}
-use Rattle.plural_bundle.specs.declared.fault.Fault.{Fault}
-use Rattle.plural_bundle.specs.declared.fault.Fault.TheVariants as fault
-use Rattle.plural_bundle.specs.Sections.{closes, up_to_header, map_lines, kernel_lines}
+use Rattle.plural_sections.specs.declared.fault.Fault.{Fault}
+use Rattle.plural_sections.specs.declared.fault.Fault.TheVariants as fault
+use Rattle.plural_sections.specs.Sections.{closes, up_to_header}
+use Rattle.plural_bundle.specs.Sections.{map_lines, kernel_lines}
 use Rattle.plural_bundle.specs.FirstLine.{first_line_fault}
-use Rattle.plural_bundle.specs.Kinds.{map_fault, kernel_fault, image_fault}
+use Rattle.plural_map_text.specs.Kinds.{map_fault}
+use Rattle.plural_asm.specs.Kinds.{kernel_fault}
+use Rattle.plural_image.specs.Kinds.{image_fault}
 use Rattle.plural_bundle.specs.Rules.{SectionBreaks, Breaks}
-use Rattle.plural_bundle.specs.Borders.{head_of, IsClosed, IsBegun, IsBehind}
+use Rattle.plural_sections.specs.Borders.{head_of, IsClosed, IsHeaded}
+use Rattle.plural_bundle.specs.Borders.{IsBegun}
 use Rattle.plural_bundle.specs.Answer.{IsBundle}
 use Rattle.plural_bundle.specs.Laws.{Parts, lines_of, AreGood, PartsMakeABundle, ABundleHasParts}
-use Rattle.plural_bundle.proofs.Bordered.{rest_closed, empty_apart}
-use Rattle.plural_bundle.proofs.Behind.{NoneCloses}
+use Rattle.plural_sections.proofs.Cuts.{rest_closed, empty_apart}
+use Rattle.plural_sections.proofs.Closings.{NoneCloses}
 use Rattle.plural_bundle.proofs.Staged.{Stage, Section, front, stage_map, stage_next, stage_closed, rule, delegates, section_closed, head_tail, tail_of, head_closes}
 use Rattle.plural_bundle.proofs.Sectioned.{map_section, kernel_section, image_section}
 use Rattle.plural_bundle.proofs.Named.{kernels_is, kernels_in, map_is}
@@ -48,9 +51,9 @@ parts_make_a_bundle p more end g =
     let r2 : List TextLine = p.map_part ++ r3 in
     let r1 : List TextLine = (p.at_map, codes "[map]") ∷ r2 in
     let begun : IsBegun (lines_of p) r1 = record { first = p.first; whole = refl; good = g.first } in
-    let map_header : IsBehind (codes "[map]") r1 r2 = record { number = p.at_map; whole = refl } in
-    let kernels_header : IsBehind (codes "[kernels]") r3 r4 = record { number = p.at_kernels; whole = refl } in
-    let image_header : IsBehind (codes "[image]") r5 r6 = record { number = p.at_image; whole = refl } in
+    let map_header : IsHeaded (codes "[map]") r1 r2 = record { number = p.at_map; whole = refl } in
+    let kernels_header : IsHeaded (codes "[kernels]") r3 r4 = record { number = p.at_kernels; whole = refl } in
+    let image_header : IsHeaded (codes "[image]") r5 r6 = record { number = p.at_image; whole = refl } in
     let own : kernel_lines input ≡ p.kernel_part = kernels_in (lines_of p) more r1 r2 p.map_part r3 r4 p.kernel_part r5 r6 begun map_header refl g.map_stays kernels_header refl g.kernels_stay image_header in
     let m : AtMap (lines_of p) r1 r2 p.map_part r3 = record { begun = begun; header = map_header; own = sym (before_at (λ m. closes m.1) p.map_part (p.at_kernels, codes "[kernels]") r4 g.map_stays refl); whole = refl; shut = refl } in
     let k : AtKernels input (lines_of p) r1 r2 p.map_part r3 r4 p.kernel_part r5 (names_of p.kernel_part) p.at_kernels =
@@ -69,7 +72,7 @@ record Advance {S : Type 0} (input all rest : List TextLine) (n : ℕ) (due : Li
   lines : List TextLine
   back : List TextLine
   more : List TextLine
-  behind : IsBehind due back more
+  behind : IsHeaded due back more
   own : lines ≡ up_to_header rest
   whole : rest ≡ lines ++ back
   none : NoneCloses lines
@@ -77,7 +80,7 @@ record Advance {S : Type 0} (input all rest : List TextLine) (n : ℕ) (due : Li
   closing : (k : Fault) → SectionBreaks input all n lines due k → ⊥
   next : Stage input all (n + 1) more
 
-behind_of : (back : List TextLine) (end : ℕ) (due : List ℕ) → 0 < length due → bytes_eq (head_of back end).1 due ≡ true → (more : List TextLine) × IsBehind due back more
+behind_of : (back : List TextLine) (end : ℕ) (due : List ℕ) → 0 < length due → bytes_eq (head_of back end).1 due ≡ true → (more : List TextLine) × IsHeaded due back more
 behind_of [] end due l e = absurd (true≢false (sym e ∙ empty_apart due l))
 behind_of (x ∷ xs) end due l e = let t : x.1 ≡ due = (bytes_eq-Decides x.1 due).0 e in (xs, record { number = x.0; whole = λ i. (x.0, t i) ∷ xs })
 
@@ -109,7 +112,7 @@ module _ {S : Type 0} (input all rest : List TextLine) (n end : ℕ) (due : List
       is_due : bytes_eq (head_of back end).1 due ≡ true
       is_due = by_due (bytes_eq (head_of back end).1 due) refl
 
-      after : (more : List TextLine) × IsBehind due back more
+      after : (more : List TextLine) × IsHeaded due back more
       after = behind_of back end due l is_due
 
       closing : (k : Fault) → SectionBreaks input all n lines due k → ⊥
@@ -141,7 +144,7 @@ first_of input (l ∷ ls) end f = (ls, record { first = l; whole = refl; good = 
     by None e = e
     by (Some k) e = absurd (f.none l.0 k (record { before = []; text = l.1; after = closed ls end; whole = refl; breaks = e }))
 
-map_header : (input lines rest : List TextLine) (end : ℕ) → IsBundle input lines end → IsBegun lines rest → (more : List TextLine) × IsBehind (codes "[map]") rest more
+map_header : (input lines rest : List TextLine) (end : ℕ) → IsBundle input lines end → IsBegun lines rest → (more : List TextLine) × IsHeaded (codes "[map]") rest more
 map_header input lines rest end f b = behind_of rest end (codes "[map]") some_5 (by (bytes_eq (head_of rest end).1 (codes "[map]")) refl)
   where
     by : (t : Bool) → bytes_eq (head_of rest end).1 (codes "[map]") ≡ t → bytes_eq (head_of rest end).1 (codes "[map]") ≡ true

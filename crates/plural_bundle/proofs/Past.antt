@@ -1,18 +1,17 @@
 -- Behind the last section.
 use Rattle.std.proofs.Common.{◌≡◌, ℕ, suc, ◌+◌, true, false, List, [], ◌∷◌, ◌++◌, refl, ap, sym, subst, ◌∙◌, append_assoc, append-nil, arith}
 use Rattle.plural_bytes.specs.Lines.{TextLine, has_text}
-use Rattle.plural_bytes.specs.Faults.{IsFaultless}
-use Rattle.plural_bytes.proofs.Faulted.{faultless_push}
+use Rattle.plural_sections.specs.Faults.{IsFaultless, closed}
+use Rattle.plural_sections.proofs.FirstFaults.{faultless_push}
 use Rattle.plural_base.proofs.ListTests.{all_append}
-use Rattle.plural_map_text.specs.Rules.{closed}
-use Rattle.plural_bundle.specs.declared.fault.Fault.{Fault}
-use Rattle.plural_bundle.specs.declared.fault.Fault.TheVariants as fault
-use Rattle.plural_bundle.specs.declared.fault.BundleError.{BundleError}
-use Rattle.plural_bundle.specs.Sections.{closings, since}
+use Rattle.plural_sections.specs.declared.fault.Fault.{Fault}
+use Rattle.plural_sections.specs.declared.fault.Fault.TheVariants as fault
+use Rattle.plural_sections.specs.declared.line_error.LineError.{LineError}
+use Rattle.plural_sections.specs.Sections.{closings, since}
 use Rattle.plural_bundle.specs.Rules.{PastBreaks, SectionBreaks, Breaks}
-use Rattle.plural_bundle.specs.Borders.{AllBlank, IsLeftOver}
+use Rattle.plural_sections.specs.Borders.{AllBlank, IsLeftOver}
 use Rattle.plural_bundle.specs.Answer.{IsBundle, Faults}
-use Rattle.plural_bundle.proofs.Behind.{closings_more}
+use Rattle.plural_sections.proofs.Closings.{closings_more}
 use Rattle.plural_bundle.proofs.Staged.{Stage, front, stage_closed, rank_low}
 
 -- behind three sections the rule is that of what follows the end
@@ -34,7 +33,7 @@ past_none input all end rest s h =
     subst (IsFaultless (Breaks input all)) (sym (stage_closed input all rest 3 end s))
     (past_blank input all rest s [] (closed rest end) (all_append (λ l. has_text l.1 ≡ false) rest ((end, []) ∷ []) h (refl, tt)) (subst (IsFaultless (Breaks input all)) (sym (append-nil (front s))) s.faultless))
 
-pub past_first : (input all : List TextLine) (end : ℕ) (rest : List TextLine) → Stage input all 3 rest → (e : BundleError) → IsLeftOver rest e → Faults input all end e
+pub past_first : (input all : List TextLine) (end : ℕ) (rest : List TextLine) → Stage input all 3 rest → (e : LineError Fault) → IsLeftOver rest e → Faults input all end e
 past_first input all end rest s e l = subst (Faults input all end) (sym l.is) (record {
   before = front s ++ l.before;
   text = l.line.1;

@@ -13,8 +13,12 @@ use Rattle.plural_asm.specs.declared.object.AsmKind.TheVariants as asm_kind
 use Rattle.plural_image.specs.Image as image
 use Rattle.plural_image.specs.declared.fault.ImageKind.{ImageKind}
 use Rattle.plural_image.specs.declared.fault.ImageKind.TheVariants as image_kind
-use Rattle.plural_bundle.specs.Sections.{closes, map_lines, kernel_lines}
-use Rattle.plural_bundle.specs.Kinds.{rank, map_fault, kernel_fault, image_fault}
+use Rattle.plural_sections.specs.Sections.{closes}
+use Rattle.plural_bundle.specs.Sections.{map_lines, kernel_lines}
+use Rattle.plural_sections.specs.Kinds.{rank}
+use Rattle.plural_map_text.specs.Kinds.{map_fault}
+use Rattle.plural_asm.specs.Kinds.{kernel_fault}
+use Rattle.plural_image.specs.Kinds.{image_fault}
 use Rattle.plural_bundle.specs.Rules.{InSection}
 use Rattle.plural_bundle.proofs.Staged.{Section}
 

@@ -2,22 +2,22 @@
 use Rattle.std.proofs.Common.{◌≡◌, ℕ, ◌+◌, ◌≤◌, true, false, List, [], ◌∷◌, ◌++◌, Some, None, refl, ap, sym, subst, ◌∙◌, arith, append_assoc}
 use Rattle.std.specs.Prelude.{codes, bytes_eq}
 use Rattle.plural_bytes.specs.Lines.{TextLine}
-use Rattle.plural_bytes.specs.Faults.{IsFaultless, IsFirstFault}
-use Rattle.plural_bytes.proofs.Faulted.{faultless_nil, faultless_push}
-use Rattle.plural_bytes.proofs.Sections.{Delegates, faultless_section, first_in_section}
+use Rattle.plural_sections.specs.Faults.{IsFaultless, IsFirstFault, closed}
+use Rattle.plural_sections.proofs.FirstFaults.{faultless_nil, faultless_push}
+use Rattle.plural_sections.proofs.Delegation.{Delegates, faultless_section, first_in_section}
 use Rattle.plural_base.proofs.ListTests.{all_front, all_back}
-use Rattle.plural_map_text.specs.Rules.{closed}
-use Rattle.plural_bundle.specs.declared.fault.Fault.{Fault}
-use Rattle.plural_bundle.specs.declared.fault.Fault.TheVariants as fault
-use Rattle.plural_bundle.specs.declared.fault.BundleError.{BundleError}
-use Rattle.plural_bundle.specs.declared.fault.BundleError.TheVariants.{At}
-use Rattle.plural_bundle.specs.Sections.{closes}
+use Rattle.plural_sections.specs.declared.fault.Fault.{Fault}
+use Rattle.plural_sections.specs.declared.fault.Fault.TheVariants as fault
+use Rattle.plural_sections.specs.declared.line_error.LineError.{LineError}
+use Rattle.plural_sections.specs.declared.line_error.LineError.TheVariants.{At}
+use Rattle.plural_sections.specs.Sections.{closes}
 use Rattle.plural_bundle.specs.FirstLine.{first_line_fault}
-use Rattle.plural_bundle.specs.Kinds.{rank}
+use Rattle.plural_sections.specs.Kinds.{rank}
 use Rattle.plural_bundle.specs.Rules.{Renamed, SectionBreaks, Breaks}
-use Rattle.plural_bundle.specs.Borders.{head_of, IsClosed, IsBegun, IsBadFirst, IsBehind, IsMissing}
+use Rattle.plural_sections.specs.Borders.{head_of, IsClosed, IsHeaded, IsMissing}
+use Rattle.plural_bundle.specs.Borders.{IsBegun, IsBadFirst}
 use Rattle.plural_bundle.specs.Answer.{Faults}
-use Rattle.plural_bundle.proofs.Behind.{NoneCloses, Begins, begins_nothing, begins_next}
+use Rattle.plural_sections.proofs.Closings.{NoneCloses, Begins, begins_nothing, begins_next}
 
 -- ---- the end of the lines
 
@@ -43,7 +43,7 @@ rank_low fault.Reach = omega arith
 rank_low (fault.Outside k) = omega arith
 
 -- a fault of form of what stands first behind lines without a fault
-pub form_first : (input all front rest : List TextLine) (end : ℕ) (error : BundleError) → closed all end ≡ front ++ closed rest end → IsFaultless (Breaks input all) front
+pub form_first : (input all front rest : List TextLine) (end : ℕ) (error : LineError Fault) → closed all end ≡ front ++ closed rest end → IsFaultless (Breaks input all) front
     → Breaks input all front (head_of rest end).1 fault.Form → error ≡ At (head_of rest end).0 fault.Form → Faults input all end error
 form_first input all front rest end error whole f b is = rw is (record {
   before = front;
@@ -57,7 +57,7 @@ form_first input all front rest end error whole f b is = rw is (record {
 
 -- ---- the first two lines
 
-pub first_bad : (input all : List TextLine) (end : ℕ) (error : BundleError) → IsBadFirst all end error → Faults input all end error
+pub first_bad : (input all : List TextLine) (end : ℕ) (error : LineError Fault) → IsBadFirst all end error → Faults input all end error
 first_bad input all end error h = rw h.is (record {
   before = [];
   text = (head_of all end).1;
@@ -71,7 +71,7 @@ first_bad input all end error h = rw h.is (record {
 first_good : (input all : List TextLine) (first : TextLine) → first_line_fault first.1 ≡ None → IsFaultless (Breaks input all) (first ∷ [])
 first_good input all first e = faultless_push (Breaks input all) [] first (faultless_nil (Breaks input all)) (λ k b. absurd (let f : None ≡ Some k = sym e ∙ b in cc))
 
-pub no_map : (input all rest : List TextLine) (end : ℕ) (error : BundleError) → IsBegun all rest → IsMissing (codes "[map]") rest end error → Faults input all end error
+pub no_map : (input all rest : List TextLine) (end : ℕ) (error : LineError Fault) → IsBegun all rest → IsMissing (codes "[map]") rest end error → Faults input all end error
 no_map input all rest end error b m = form_first input all (b.first ∷ []) rest end error (ap (λ x. closed x end) b.whole) (first_good input all b.first b.good) (refl, m.other) m.is
 
 -- ---- behind them
@@ -88,7 +88,7 @@ pub record Stage (input all : List TextLine) (n : ℕ) (rest : List TextLine) : 
 abbrev pub front : {input all rest : List TextLine} {n : ℕ} → Stage input all n rest → List TextLine
 front s = s.first ∷ s.second ∷ s.body
 
-pub stage_map : (input all rest lines : List TextLine) → IsBegun all rest → IsBehind (codes "[map]") rest lines → Stage input all 0 lines
+pub stage_map : (input all rest lines : List TextLine) → IsBegun all rest → IsHeaded (codes "[map]") rest lines → Stage input all 0 lines
 stage_map input all rest lines b h = record {
   first = b.first;
   second = (h.number, codes "[map]");
@@ -142,13 +142,13 @@ module _ {S : Type 0} (input all rest : List TextLine) (n : ℕ) (due : List ℕ
       rw (section_closed lines back end e) (first_in_section rank (Breaks input all) rank_s Part of (front s) lines (closed back end) number k same (delegates lines h) s.faultless f)
 
   -- what closes the section isn't the header that is due
-  pub section_missing : (lines back : List TextLine) (end : ℕ) (error : BundleError) → NoneCloses lines → rest ≡ lines ++ back → IsFaultless Part lines → IsClosed back → IsMissing due back end error → Faults input all end error
+  pub section_missing : (lines back : List TextLine) (end : ℕ) (error : LineError Fault) → NoneCloses lines → rest ≡ lines ++ back → IsFaultless Part lines → IsClosed back → IsMissing due back end error → Faults input all end error
   section_missing lines back end error h e f x m =
       form_first input all (front s ++ lines) back end error (section_closed lines back end e ∙ sym (append_assoc (front s) lines (closed back end))) (section_faultless lines h f)
       (subst (λ X. X) (sym (rule input all rest n s lines h (head_of back end).1 fault.Form)) (c.missing lines (head_of back end).1 (head_closes back end x) m.other)) m.is
 
   -- it is, and has no fault itself
-  pub stage_next : (lines back more : List TextLine) → NoneCloses lines → rest ≡ lines ++ back → IsFaultless Part lines → closes due ≡ true → IsBehind due back more
+  pub stage_next : (lines back more : List TextLine) → NoneCloses lines → rest ≡ lines ++ back → IsFaultless Part lines → closes due ≡ true → IsHeaded due back more
       → ((k : Fault) → SectionBreaks input all n lines due k → ⊥) → Stage input all (n + 1) more
   stage_next lines back more h e f x b none =
       let line : TextLine = (b.number, due) in

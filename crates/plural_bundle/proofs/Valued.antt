@@ -6,7 +6,7 @@ use Rattle.std.specs.Option.{option_map_or}
 use Rattle.std.proofs.lemmas.Bool.{cases_lt}
 use Rattle.std.proofs.lemmas.List.{length-map, length-replicate}
 use Rattle.plural_bytes.specs.Lines.{TextLine}
-use Rattle.plural_bytes.specs.Faults.{IsFaultless}
+use Rattle.plural_sections.specs.Faults.{IsFaultless}
 use Rattle.plural_base.proofs.ListTests.{all_append}
 use Rattle.plural_map.specs.Value.{MapValue, TaskValue}
 use Rattle.plural_asm.specs.Words.{gathered, label_at, labels_of}
@@ -17,7 +17,7 @@ use Rattle.plural_image.specs.Shape.{image_line}
 use Rattle.plural_image.specs.Image as image
 use Rattle.plural_image.specs.Image.{placed, image_of, overwritten}
 use Rattle.plural_image.specs.declared.fault.ImageKind.TheVariants.{Address}
-use Rattle.plural_image.proofs.Imaged.{length-overwritten}
+use Rattle.plural_image.proofs.ReadImage.{length-overwritten}
 use Rattle.plural_serial.specs.Program.{HasEntries}
 use Rattle.plural_bundle.specs.Value.{pc_of}
 

@@ -2,31 +2,30 @@
 use Rattle.std.proofs.Common.{◌≡◌, ℕ, true, false, List, [], ◌++◌, refl, ap, sym, subst, ◌∙◌, append_assoc, inl, inr}
 use Rattle.std.specs.Prelude.{codes, Result, Ok, Err, MatchResult, IsErrAnd}
 use Rattle.plural_bytes.specs.Lines.{TextLine}
-use Rattle.plural_bytes.specs.Faults.{IsFaultless, IsFirstFault}
+use Rattle.plural_sections.specs.Faults.{IsFaultless, IsFirstFault, closed}
 use Rattle.plural_base.proofs.ListTests.{none_before}
-use Rattle.plural_bytes.proofs.Faulted.{last_none, last_first}
+use Rattle.plural_sections.proofs.FirstFaults.{last_none, last_first}
 use Rattle.plural_map_text.specs.Rules as map
-use Rattle.plural_map_text.specs.Rules.{closed}
 use Rattle.plural_map_text.specs.Parts.{map_of}
 use Rattle.plural_map_text.specs.declared.fault.MapKind.{MapKind}
-use Rattle.plural_map_text.specs.declared.fault.MapError.{MapError}
-use Rattle.plural_map_text.specs.declared.fault.MapError.TheVariants as map_error
+use Rattle.plural_sections.specs.declared.line_error.LineError.{LineError}
+use Rattle.plural_sections.specs.declared.line_error.LineError.TheVariants as error
 use Rattle.plural_asm.specs.Rules as asm
 use Rattle.plural_asm.specs.Labels.{names_of}
-use Rattle.plural_asm.specs.declared.object.AsmError.{AsmError}
-use Rattle.plural_asm.specs.declared.object.AsmError.TheVariants as asm_error
 use Rattle.plural_image.specs.Image as image
 use Rattle.plural_image.specs.Answer as image_answer
-use Rattle.plural_image.specs.declared.fault.ImageError.{ImageError}
-use Rattle.plural_image.specs.declared.fault.ImageError.TheVariants as image_error
-use Rattle.plural_bundle.specs.declared.fault.Fault.TheVariants as fault
-use Rattle.plural_bundle.specs.declared.fault.BundleError.{BundleError}
-use Rattle.plural_bundle.specs.declared.fault.BundleError.TheVariants.{At}
-use Rattle.plural_bundle.specs.Sections.{closes, up_to_header, map_lines, kernel_lines, image_lines}
-use Rattle.plural_bundle.specs.Kinds as kinds
-use Rattle.plural_bundle.specs.Kinds.{rank, map_fault, kernel_fault, image_fault}
+use Rattle.plural_sections.specs.declared.fault.Fault.TheVariants as fault
+use Rattle.plural_sections.specs.declared.line_error.LineError.TheVariants.{At}
+use Rattle.plural_sections.specs.Sections.{closes, up_to_header}
+use Rattle.plural_bundle.specs.Sections.{map_lines, kernel_lines, image_lines}
+use Rattle.plural_sections.specs.Errors.{renamed}
+use Rattle.plural_sections.specs.Kinds.{rank}
+use Rattle.plural_map_text.specs.Kinds.{map_fault}
+use Rattle.plural_asm.specs.Kinds.{kernel_fault}
+use Rattle.plural_image.specs.Kinds.{image_fault}
 use Rattle.plural_bundle.specs.Rules.{SectionBreaks}
-use Rattle.plural_bundle.specs.Borders.{head_of, IsClosed, IsBegun, IsBehind, IsMissing, AllBlank, IsLeftOver}
+use Rattle.plural_sections.specs.Borders.{head_of, IsClosed, IsHeaded, IsMissing, AllBlank, IsLeftOver}
+use Rattle.plural_bundle.specs.Borders.{IsBegun}
 use Rattle.plural_bundle.specs.Answer.{IsBundle, Faults}
 use Rattle.plural_map.specs.Value.{MapValue}
 use Rattle.plural_asm.specs.Words.{code_of, labels_of}
@@ -34,11 +33,14 @@ use Rattle.plural_asm.specs.declared.object.Label.{Label}
 use Rattle.plural_image.specs.Image.{image_of}
 use Rattle.plural_serial.specs.Program.{ProgramValue}
 use Rattle.plural_bundle.specs.Value.{program_with, program_of, bundle_of}
-use Rattle.plural_bundle.proofs.Behind.{NoneCloses}
+use Rattle.plural_sections.proofs.Closings.{NoneCloses}
 use Rattle.plural_bundle.proofs.Staged.{Stage, front, stage_map, stage_next, rule, head_closes, form_first, section_closed, section_faultless, section_first, section_missing}
 use Rattle.plural_bundle.proofs.Sectioned.{in_closing, map_section, kernel_section, image_section, map_rank, kernel_rank, image_rank, closing_form}
 use Rattle.plural_bundle.proofs.Past.{past_none, past_first}
 use Rattle.plural_bundle.proofs.Named.{map_is, kernels_is, image_is}
+use Rattle.plural_image.specs.declared.fault.ImageKind.{ImageKind}
+use Rattle.plural_asm.specs.declared.object.AsmKind.{AsmKind}
+use Rattle.plural_sections.specs.declared.fault.Fault.{Fault}
 
 -- an error that was answered is the one that this says of
 pub answered : {V E : Type 0} (r : Result V E) (P : V → Type 0) (Q : E → Type 0) (e : E) → IsErrAnd r (λ x. x ≡ e) → Q e → MatchResult r P Q
@@ -50,7 +52,7 @@ answered (Err x) P Q e h q = subst Q (sym h) q
 -- up to the map's lines, and those from the next header on
 pub record AtMap (all r1 r2 lines back : List TextLine) : Type 0 where
   pub begun : IsBegun all r1
-  pub header : IsBehind (codes "[map]") r1 r2
+  pub header : IsHeaded (codes "[map]") r1 r2
   pub own : lines ≡ up_to_header r2
   pub whole : r2 ≡ lines ++ back
   pub shut : IsClosed back
@@ -60,7 +62,7 @@ pub record AtKernels (input all r1 r2 maps back r4 lines after : List TextLine) 
   pub at_map : AtMap all r1 r2 maps back
   pub names : labels ≡ names_of (kernel_lines input)
   pub good : map.IsMapText 1 labels maps number
-  pub header : IsBehind (codes "[kernels]") back r4
+  pub header : IsHeaded (codes "[kernels]") back r4
   pub own : lines ≡ up_to_header r4
   pub whole : r4 ≡ lines ++ after
   pub shut : IsClosed after
@@ -69,20 +71,20 @@ pub record AtKernels (input all r1 r2 maps back r4 lines after : List TextLine) 
 pub record AtImage (input all r1 r2 maps back r4 kernels after r6 lines last : List TextLine) (labels : List (List ℕ)) (number : ℕ) : Type 0 where
   pub at_kernels : AtKernels input all r1 r2 maps back r4 kernels after labels number
   pub good : IsFaultless (asm.Breaks kernels) kernels
-  pub header : IsBehind (codes "[image]") after r6
+  pub header : IsHeaded (codes "[image]") after r6
   pub own : lines ≡ up_to_header r6
   pub whole : r6 ≡ lines ++ last
   pub shut : IsClosed last
 
-pub at_map : {all r1 r2 lines back : List TextLine} → IsBegun all r1 → IsBehind (codes "[map]") r1 r2 → lines ≡ up_to_header r2 → r2 ≡ lines ++ back → IsClosed back → AtMap all r1 r2 lines back
+pub at_map : {all r1 r2 lines back : List TextLine} → IsBegun all r1 → IsHeaded (codes "[map]") r1 r2 → lines ≡ up_to_header r2 → r2 ≡ lines ++ back → IsClosed back → AtMap all r1 r2 lines back
 at_map b h o w s = record { begun = b; header = h; own = o; whole = w; shut = s }
 
 pub at_kernels : (input : List TextLine) {all r1 r2 maps back r4 lines after : List TextLine} {labels : List (List ℕ)} {number : ℕ} → AtMap all r1 r2 maps back → labels ≡ names_of (kernel_lines input) → map.IsMapText 1 labels maps number
-    → IsBehind (codes "[kernels]") back r4 → lines ≡ up_to_header r4 → r4 ≡ lines ++ after → IsClosed after → AtKernels input all r1 r2 maps back r4 lines after labels number
+    → IsHeaded (codes "[kernels]") back r4 → lines ≡ up_to_header r4 → r4 ≡ lines ++ after → IsClosed after → AtKernels input all r1 r2 maps back r4 lines after labels number
 at_kernels input a n g h o w s = record { at_map = a; names = n; good = g; header = h; own = o; whole = w; shut = s }
 
 pub at_image : {input all r1 r2 maps back r4 kernels after r6 lines last : List TextLine} {labels : List (List ℕ)} {number : ℕ} → AtKernels input all r1 r2 maps back r4 kernels after labels number → IsFaultless (asm.Breaks kernels) kernels
-    → IsBehind (codes "[image]") after r6 → lines ≡ up_to_header r6 → r6 ≡ lines ++ last → IsClosed last → AtImage input all r1 r2 maps back r4 kernels after r6 lines last labels number
+    → IsHeaded (codes "[image]") after r6 → lines ≡ up_to_header r6 → r6 ≡ lines ++ last → IsClosed last → AtImage input all r1 r2 maps back r4 kernels after r6 lines last labels number
 at_image a g h o w s = record { at_kernels = a; good = g; header = h; own = o; whole = w; shut = s }
 
 -- The rule of the map's lines, by the names of the input and all lines of the section.
@@ -103,7 +105,7 @@ module _ (input all r1 r2 maps back : List TextLine) (a : AtMap all r1 r2 maps b
   own_map_rule labels number names good =
       subst (λ l. IsFaultless (map.Breaks 1 (names_of (kernel_lines input)) l) (closed maps number)) (sym map_own) (subst (λ l. map.IsMapText 1 l maps number) names good)
 
-  pub kernels_missing : (end number : ℕ) (labels : List (List ℕ)) (e : BundleError) → labels ≡ names_of (kernel_lines input) → map.IsMapText 1 labels maps number → IsMissing (codes "[kernels]") back end e → Faults input all end e
+  pub kernels_missing : (end number : ℕ) (labels : List (List ℕ)) (e : LineError Fault) → labels ≡ names_of (kernel_lines input) → map.IsMapText 1 labels maps number → IsMissing (codes "[kernels]") back end e → Faults input all end e
   kernels_missing end number labels e names good m =
       section_missing input all r2 0 (codes "[kernels]") (MapRule input all) map_fault map_stage (map_section input all) maps back end e map_none a.whole
       (last_none (MapRule input all) maps (number, []) (own_map_rule labels number names good)).0 a.shut m
@@ -126,9 +128,9 @@ module _ (input all r1 r2 maps back : List TextLine) (a : AtMap all r1 r2 maps b
     | inr last ↦ subst (λ x. Faults input all end (At x (map_fault k))) (sym (last.1 ∙ n)) (map_closing end k last.0 last.2)
   ]
 
-  pub map_faults : (end number : ℕ) (labels : List (List ℕ)) (e : MapError) → labels ≡ names_of (kernel_lines input) → number ≡ (head_of back end).0 → map.Faults 1 labels maps number e → Faults input all end (kinds.map_error e)
-  map_faults end number labels map_error.Memory names n f = tt
-  map_faults end number labels (map_error.At line k) names n f =
+  pub map_faults : (end number : ℕ) (labels : List (List ℕ)) (e : LineError MapKind) → labels ≡ names_of (kernel_lines input) → number ≡ (head_of back end).0 → map.Faults 1 labels maps number e → Faults input all end (renamed map_fault e)
+  map_faults end number labels error.Memory names n f = tt
+  map_faults end number labels (error.At line k) names n f =
       map_first end number line k n
       (subst (λ l. IsFirstFault map.rank (map.Breaks 1 (names_of (kernel_lines input)) l) (closed maps number) line k) (sym map_own)
       (subst (λ l. IsFirstFault map.rank (map.Breaks 1 l maps) (closed maps number) line k) names f))
@@ -149,13 +151,13 @@ module _ (input all r1 r2 maps back r4 lines after : List TextLine) (labels : Li
   own_rule : IsFaultless (asm.Breaks lines) lines → IsFaultless (asm.Breaks (kernel_lines all)) lines
   own_rule f = subst (λ l. IsFaultless (asm.Breaks l) lines) (sym kernels_own) f
 
-  pub kernels_faults : (end : ℕ) (e : AsmError) → asm.Faults lines e → Faults input all end (kinds.kernel_error e)
-  kernels_faults end asm_error.Memory f = tt
-  kernels_faults end (asm_error.At line k) f =
+  pub kernels_faults : (end : ℕ) (e : LineError AsmKind) → asm.Faults lines e → Faults input all end (renamed kernel_fault e)
+  kernels_faults end error.Memory f = tt
+  kernels_faults end (error.At line k) f =
       section_first input all r4 1 (codes "[image]") (asm.Breaks (kernel_lines all)) kernel_fault kernels_stage (kernel_section input all) asm.rank lines after end line k kernel_rank kernels_none a.whole
       (subst (λ l. IsFirstFault asm.rank (asm.Breaks l) lines line k) (sym kernels_own) f)
 
-  pub image_missing : (end : ℕ) (e : BundleError) → IsFaultless (asm.Breaks lines) lines → IsMissing (codes "[image]") after end e → Faults input all end e
+  pub image_missing : (end : ℕ) (e : LineError Fault) → IsFaultless (asm.Breaks lines) lines → IsMissing (codes "[image]") after end e → Faults input all end e
   image_missing end e good m =
       section_missing input all r4 1 (codes "[image]") (asm.Breaks (kernel_lines all)) kernel_fault kernels_stage (kernel_section input all) lines after end e kernels_none a.whole (own_rule good) a.shut m
 
@@ -178,26 +180,26 @@ module _ (input all r1 r2 maps back r4 kernels after r6 lines last : List TextLi
   words_own : (w : ℕ) → w ≡ (map_of maps).words → w ≡ (map_of (map_lines all)).words
   words_own w e = e ∙ ap (λ l. (map_of l).words) (sym (map_own input all r1 r2 maps back a.at_kernels.at_map))
 
-  pub image_faults : (end w : ℕ) (e : ImageError) → w ≡ (map_of maps).words → image_answer.Faults w lines e → Faults input all end (kinds.image_error e)
-  image_faults end w image_error.Memory h f = tt
-  image_faults end w (image_error.At line k) h f =
+  pub image_faults : (end w : ℕ) (e : LineError ImageKind) → w ≡ (map_of maps).words → image_answer.Faults w lines e → Faults input all end (renamed image_fault e)
+  image_faults end w error.Memory h f = tt
+  image_faults end w (error.At line k) h f =
       section_first input all r6 2 (codes "[end]") (image.Breaks (map_of (map_lines all)).words) image_fault image_stage (image_section input all) image.rank lines last end line k image_rank image_none a.whole
       (subst (λ x. IsFirstFault image.rank (image.Breaks x) lines line k) (words_own w h) f)
 
-  pub end_missing : (end w : ℕ) (e : BundleError) → w ≡ (map_of maps).words → IsFaultless (image.Breaks w) lines → IsMissing (codes "[end]") last end e → Faults input all end e
+  pub end_missing : (end w : ℕ) (e : LineError Fault) → w ≡ (map_of maps).words → IsFaultless (image.Breaks w) lines → IsMissing (codes "[end]") last end e → Faults input all end e
   end_missing end w e h good m =
       section_missing input all r6 2 (codes "[end]") (image.Breaks (map_of (map_lines all)).words) image_fault image_stage (image_section input all) lines last end e image_none a.whole
       (subst (λ x. IsFaultless (image.Breaks x) lines) (words_own w h) good) a.shut m
 
-  end_stage : (w : ℕ) (rest : List TextLine) → w ≡ (map_of maps).words → IsFaultless (image.Breaks w) lines → IsBehind (codes "[end]") last rest → Stage input all 3 rest
+  end_stage : (w : ℕ) (rest : List TextLine) → w ≡ (map_of maps).words → IsFaultless (image.Breaks w) lines → IsHeaded (codes "[end]") last rest → Stage input all 3 rest
   end_stage w rest h good b =
       stage_next input all r6 2 (codes "[end]") (image.Breaks (map_of (map_lines all)).words) image_fault image_stage (image_section input all) lines last rest image_none a.whole
       (subst (λ x. IsFaultless (image.Breaks x) lines) (words_own w h) good) refl b (λ f o. absurd (let x : true ≡ false = o.1 in cc))
 
-  pub left_faults : (end w : ℕ) (rest : List TextLine) (e : BundleError) → w ≡ (map_of maps).words → IsFaultless (image.Breaks w) lines → IsBehind (codes "[end]") last rest → IsLeftOver rest e → Faults input all end e
+  pub left_faults : (end w : ℕ) (rest : List TextLine) (e : LineError Fault) → w ≡ (map_of maps).words → IsFaultless (image.Breaks w) lines → IsHeaded (codes "[end]") last rest → IsLeftOver rest e → Faults input all end e
   left_faults end w rest e h good b l = past_first input all end rest (end_stage w rest h good b) e l
 
-  pub is_bundle : (end w : ℕ) (rest : List TextLine) → w ≡ (map_of maps).words → IsFaultless (image.Breaks w) lines → IsBehind (codes "[end]") last rest → AllBlank rest → IsBundle input all end
+  pub is_bundle : (end w : ℕ) (rest : List TextLine) → w ≡ (map_of maps).words → IsFaultless (image.Breaks w) lines → IsHeaded (codes "[end]") last rest → AllBlank rest → IsBundle input all end
   is_bundle end w rest h good b l = past_none input all end rest (end_stage w rest h good b) l
 
   -- the program and the image are those that the lines spell

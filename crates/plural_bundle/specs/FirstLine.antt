@@ -2,8 +2,8 @@
 use Rattle.std.specs.Prelude.{ℕ, List, [], ◌∷◌, Option, Some, None, codes, bytes_eq, if◌then◌else◌, ◌==◌}
 use Rattle.plural_bytes.specs.Lines.{tokens}
 use Rattle.plural_bytes.specs.Numerals.{numeral}
-use Rattle.plural_bundle.specs.declared.fault.Fault.{Fault}
-use Rattle.plural_bundle.specs.declared.fault.Fault.TheVariants as fault
+use Rattle.plural_sections.specs.declared.fault.Fault.{Fault}
+use Rattle.plural_sections.specs.declared.fault.Fault.TheVariants as fault
 
 -- The fault of a version: form where it is no numeral, number where it isn't 1.
 abbrev pub version_fault : Option ℕ → Option Fault

@@ -2,7 +2,7 @@
 use Rattle.std.specs.Prelude.{ℕ, ◌≡◌, false, true, List, [], ◌∷◌, ◌++◌, None, codes}
 use Rattle.std.specs.List.{AllByRecursion}
 use Rattle.plural_bytes.specs.Lines.{TextLine, has_text}
-use Rattle.plural_bytes.specs.Faults.{IsFaultless}
+use Rattle.plural_sections.specs.Faults.{IsFaultless, closed}
 use Rattle.plural_map_text.specs.Rules as map
 use Rattle.plural_map_text.specs.Parts.{map_of}
 use Rattle.plural_asm.specs.Rules as kernels
@@ -10,7 +10,7 @@ use Rattle.plural_asm.specs.Labels.{names_of}
 use Rattle.plural_asm.specs.Words.{code_of, labels_of}
 use Rattle.plural_image.specs.Image as image
 use Rattle.plural_image.specs.Image.{image_of}
-use Rattle.plural_bundle.specs.Sections.{closes}
+use Rattle.plural_sections.specs.Sections.{closes}
 use Rattle.plural_bundle.specs.FirstLine.{first_line_fault}
 use Rattle.plural_bundle.specs.Answer.{IsBundle}
 use Rattle.plural_bundle.specs.Value.{program_with, bundle_of}

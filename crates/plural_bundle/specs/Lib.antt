@@ -1,6 +1,6 @@
 pub use Rattle.plural_bytes.specs.Lines
 pub use Rattle.plural_bytes.specs.Spelled
-pub use Rattle.plural_bytes.specs.Faults
+pub use Rattle.plural_sections.specs.Faults
 pub use Rattle.plural_map_text.specs.Parts
 pub use Rattle.plural_map_text.specs.Rules as MapRules
 pub use Rattle.plural_asm.specs.Words
@@ -9,7 +9,6 @@ pub use Rattle.plural_image.specs.Image
 pub use Rattle.plural_serial.specs.Program
 pub mod Sections
 pub mod FirstLine
-pub mod Kinds
 pub mod Rules
 pub mod Borders
 pub mod Value

@@ -7,11 +7,14 @@ use Rattle.plural_map_text.specs.Parts.{map_of}
 use Rattle.plural_asm.specs.Rules as kernels
 use Rattle.plural_asm.specs.Labels.{names_of}
 use Rattle.plural_image.specs.Image as image
-use Rattle.plural_bundle.specs.declared.fault.Fault.{Fault}
-use Rattle.plural_bundle.specs.declared.fault.Fault.TheVariants.{Form}
-use Rattle.plural_bundle.specs.Sections.{closes, map_lines, kernel_lines, closings, since}
+use Rattle.plural_sections.specs.declared.fault.Fault.{Fault}
+use Rattle.plural_sections.specs.declared.fault.Fault.TheVariants.{Form}
+use Rattle.plural_sections.specs.Sections.{closes, closings, since}
+use Rattle.plural_bundle.specs.Sections.{map_lines, kernel_lines}
 use Rattle.plural_bundle.specs.FirstLine.{first_line_fault}
-use Rattle.plural_bundle.specs.Kinds.{map_fault, kernel_fault, image_fault}
+use Rattle.plural_map_text.specs.Kinds.{map_fault}
+use Rattle.plural_asm.specs.Kinds.{kernel_fault}
+use Rattle.plural_image.specs.Kinds.{image_fault}
 
 -- A fault of form, where the line isn't the header that is due, alone on its line.
 abbrev pub IsNot : List ℕ → List ℕ → Fault → Type 0

@@ -10,15 +10,14 @@
 //! `plural_output` reads the sections of an output.
 #![tactic(auto)]
 
-pub mod border;
 mod bundle;
 mod fault;
 mod first_line;
 pub mod laws;
 mod program;
 mod read;
-pub mod section;
 
 pub use bundle::Bundle;
-pub use fault::{BundleError, Fault};
+pub use fault::BundleError;
+pub use plural_sections::Fault;
 pub use read::read_bundle;

@@ -5,15 +5,17 @@ ghost use Rattle.plural_bytes.specs.Spelled.{text_lines};
 ghost use Rattle.plural_bundle.specs.Value.{bundle_of};
 ghost use Rattle.plural_bundle.specs.Answer.{IsBundle, Faults};
 
-use crate::border::{behind, behind_first, first_number, nothing_behind};
 use crate::bundle::Bundle;
 use crate::fault::BundleError;
+use crate::first_line::after_first;
 use crate::program::program;
-use crate::section::{kernel_lines, next_section};
 use plural_asm::{assemble, names};
 use plural_bytes::Line;
 use plural_image::read_image;
 use plural_map_text::parse;
+use plural_sections::{
+    after_header, first_number, next_section, nothing_after, renamed, section_of,
+};
 use std::alloc::Global;
 
 /// The program and the image that the content lines of a bundle spell, or their first fault. The
@@ -34,14 +36,15 @@ pub fn read_bundle(
     ensures whole { IfOk result (λ b. length b.image % 8 ≡ 0) }
     ensures small { IfOk result (λ b. length b.image ≤ 1048576) }
 {
-    let labels = names(alloc, kernel_lines(input))?;
-    let map = next_section(behind(behind_first(lines, end)?, b"[map]", end)?);
-    let tasks = parse(alloc, map.lines, &labels, first_number(map.rest, end), 1)?;
-    let kernels = next_section(behind(map.rest, b"[kernels]", end)?);
-    let object = assemble(alloc, kernels.lines)?;
-    let image = next_section(behind(kernels.rest, b"[image]", end)?);
-    let words = read_image(alloc, image.lines, tasks.words())?;
-    nothing_behind(behind(image.rest, b"[end]", end)?)?;
+    let labels = names(alloc, section_of(input, b"[kernels]"))?;
+    let map = next_section(after_header(after_first(lines, end)?, b"[map]", end)?);
+    let closing = first_number(map.rest, end);
+    let tasks = renamed(parse(alloc, map.lines, &labels, closing, 1))?;
+    let kernels = next_section(after_header(map.rest, b"[kernels]", end)?);
+    let object = renamed(assemble(alloc, kernels.lines))?;
+    let image = next_section(after_header(kernels.rest, b"[image]", end)?);
+    let words = renamed(read_image(alloc, image.lines, tasks.words()))?;
+    nothing_after(after_header(image.rest, b"[end]", end)?)?;
     let program = program(alloc, tasks, object)?;
     Ok(Bundle {
         program,

@@ -1,8 +1,6 @@
 pub mod Known
 pub mod Cuts
 pub mod Valued
-pub mod Faulted
-pub mod Sections
 pub mod Numbered
 pub mod Plain
 pub mod Decimals

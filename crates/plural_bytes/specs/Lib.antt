@@ -5,6 +5,5 @@ pub mod InMemory
 pub mod Lines
 pub mod Numerals
 pub mod Hexadecimal
-pub mod Faults
 pub mod Spelled
 pub mod Laws

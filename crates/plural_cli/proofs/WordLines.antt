@@ -6,9 +6,9 @@ use Rattle.std.proofs.lemmas.List.{length-append, flat_map_more, map_more}
 use Rattle.plural_bytes.specs.Lines.{TextLine}
 use Rattle.plural_bytes.specs.declared.lines.Line.{Line}
 use Rattle.plural_bytes.specs.Spelled.{text_line, text_lines}
-use Rattle.plural_bytes.specs.Faults.{IsFaultless, IsFirstFault}
-use Rattle.plural_bytes.proofs.Faulted.{faultless_nil, first_fault, faultless_more}
-use Rattle.plural_image.specs.Shape.{word_token}
+use Rattle.plural_sections.specs.Faults.{IsFaultless, IsFirstFault}
+use Rattle.plural_sections.proofs.FirstFaults.{faultless_nil, first_fault, faultless_more}
+use Rattle.plural_sections.specs.Numbers.{word_token}
 use Rattle.plural_asm.specs.Rules.{rank}
 use Rattle.plural_asm.specs.declared.object.AsmKind.{AsmKind}
 use Rattle.plural_asm.specs.declared.object.AsmKind.TheVariants as kinds

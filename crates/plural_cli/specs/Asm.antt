@@ -1,7 +1,7 @@
 -- What `asm` answers to kernel lines.
 use Rattle.std.specs.Prelude.{ℕ, ◌≡◌, ◌⊎◌, List, [], ◌∷◌, ◌++◌, flat_map}
 use Rattle.plural_bytes.specs.Lines.{TextLine, content_lines}
-use Rattle.plural_bytes.specs.Faults.{IsFaultless}
+use Rattle.plural_sections.specs.Faults.{IsFaultless}
 use Rattle.plural_image.specs.Print.{hex_text}
 use Rattle.plural_asm.specs.Words.{code_of}
 use Rattle.plural_asm.specs.Rules.{Breaks, rank}

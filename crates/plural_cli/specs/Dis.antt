@@ -2,8 +2,8 @@
 use Rattle.std.specs.Prelude.{ℕ, ◌≡◌, ◌≤◌, ◌⊎◌, List, [], ◌∷◌, ◌++◌, None, length, flat_map}
 use Rattle.std.specs.Option.{option_map_or}
 use Rattle.plural_bytes.specs.Lines.{TextLine, content_lines}
-use Rattle.plural_bytes.specs.Faults.{IsFaultless}
-use Rattle.plural_image.specs.Shape.{word_token}
+use Rattle.plural_sections.specs.Faults.{IsFaultless}
+use Rattle.plural_sections.specs.Numbers.{word_token}
 use Rattle.plural_asm.specs.WordText.{word_text}
 use Rattle.plural_asm.specs.declared.object.AsmKind.{AsmKind}
 use Rattle.plural_asm.specs.declared.object.AsmKind.TheVariants as kinds

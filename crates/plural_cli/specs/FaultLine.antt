@@ -2,11 +2,11 @@
 use Rattle.std.specs.Prelude.{ℕ, ◌≡◌, List, [], ◌∷◌, ◌++◌, codes}
 use Rattle.std.specs.Fmt.{decimal}
 use Rattle.plural_bytes.specs.Lines.{TextLine}
-use Rattle.plural_bytes.specs.Faults.{IsFirstFault}
+use Rattle.plural_sections.specs.Faults.{IsFirstFault}
 use Rattle.plural_asm.specs.declared.object.AsmKind.{AsmKind}
 use Rattle.plural_asm.specs.declared.object.AsmKind.TheVariants as kinds
-use Rattle.plural_bundle.specs.declared.fault.Fault.{Fault}
-use Rattle.plural_bundle.specs.declared.fault.Fault.TheVariants as fault
+use Rattle.plural_sections.specs.declared.fault.Fault.{Fault}
+use Rattle.plural_sections.specs.declared.fault.Fault.TheVariants as fault
 
 -- The word for a kind of fault of kernel lines, and of words.
 abbrev pub kind_text : AsmKind → List ℕ

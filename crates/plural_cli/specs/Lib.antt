@@ -1,7 +1,7 @@
 pub use Rattle.plural_bytes.specs.Causes
 pub use Rattle.plural_bytes.specs.Streams
 pub use Rattle.plural_bytes.specs.Lines as ByteLines
-pub use Rattle.plural_bytes.specs.Faults
+pub use Rattle.plural_sections.specs.Faults
 pub use Rattle.plural_image.specs.Print
 pub use Rattle.plural_map.specs.Decisions
 pub use Rattle.plural_map_text.specs.Print as MapPrint

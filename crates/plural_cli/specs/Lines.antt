@@ -1,8 +1,8 @@
 -- What a command answers to an input that has to be a bundle.
 use Rattle.std.specs.Prelude.{ℕ, ◌+◌, ◌⊎◌, List, length}
 use Rattle.plural_bytes.specs.Lines.{TextLine, pieces, content_lines}
-use Rattle.plural_map_text.specs.Rules.{closed}
-use Rattle.plural_bundle.specs.Kinds.{rank}
+use Rattle.plural_sections.specs.Faults.{closed}
+use Rattle.plural_sections.specs.Kinds.{rank}
 use Rattle.plural_bundle.specs.Rules.{Breaks}
 use Rattle.plural_bundle.specs.Value.{BundleValue, bundle_of}
 use Rattle.plural_bundle.specs.Answer.{IsBundle}

@@ -2,8 +2,8 @@
 use Rattle.std.specs.Prelude.{ℕ, ◌≡◌, ◌⊎◌, List, [], ◌∷◌, ◌++◌, codes, length}
 use Rattle.std.specs.Fmt.{decimal}
 use Rattle.plural_bytes.specs.Lines.{TextLine, content_lines}
-use Rattle.plural_map_text.specs.Rules.{closed}
-use Rattle.plural_bundle.specs.Kinds.{rank}
+use Rattle.plural_sections.specs.Faults.{closed}
+use Rattle.plural_sections.specs.Kinds.{rank}
 use Rattle.plural_bundle.specs.Value.{BundleValue, bundle_of}
 use Rattle.plural_bundle.specs.Answer.{IsBundle}
 use Rattle.plural_crew.specs.Clashes.{IsAccepted}

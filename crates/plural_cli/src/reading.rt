@@ -59,8 +59,8 @@ pub(crate) fn read_lines<'b>(
 {
     match read_bundle(alloc, input, lines, end) {
         Ok(bundle) => Ok(Reading::Whole(bundle)),
-        Err(BundleError::At { line, fault }) => {
-            Ok(Reading::Faulty(bundle_fault(alloc, line, fault)?))
+        Err(BundleError::At { line, kind }) => {
+            Ok(Reading::Faulty(bundle_fault(alloc, line, kind)?))
         }
         Err(BundleError::Memory) => Err(Memory),
     }

@@ -96,7 +96,7 @@ fn output_answer(
 {
     match read_output(alloc, bundle.program.map(), lines, end) {
         Ok(output) => checked_and_judged(alloc, bundle, &output),
-        Err(BundleError::At { line, fault }) => bundle_fault(alloc, line, fault),
+        Err(BundleError::At { line, kind }) => bundle_fault(alloc, line, kind),
         Err(BundleError::Memory) => Err(Memory),
     }
 }

@@ -11,7 +11,8 @@ use Rattle.plural_bytes.specs.Hexadecimal.{hex_text}
 use Rattle.plural_bytes.proofs.Hexadecimals.{hex_digits, hex_back}
 use Rattle.plural_bytes.proofs.Lined as lined
 use Rattle.plural_bytes.proofs.Tokens.{is_token, joined, hex_plain, hex_token, tokens_joined, line_next}
-use Rattle.plural_image.specs.Shape.{word_token, all_words, one_to_eight, line_of, image_line}
+use Rattle.plural_sections.specs.Numbers.{word_token}
+use Rattle.plural_image.specs.Shape.{all_words, one_to_eight, line_of, image_line}
 use Rattle.plural_image.specs.Print.{row_text}
 pub use Rattle.plural_bytes.proofs.Lined.{is_plain, is_inner, EndsPlain, pieces_cons}
 pub use Rattle.plural_bytes.proofs.Tokens.{split_cons, split_end}

@@ -1,5 +1,5 @@
 pub mod Shapes
-pub mod Imaged
+pub mod ReadImage
 pub mod Printed
 pub mod Again
 pub mod Rows

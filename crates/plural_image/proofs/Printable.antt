@@ -11,7 +11,8 @@ use Rattle.plural_bytes.specs.Laws.{is_printable}
 use Rattle.plural_bytes.specs.Numerals.{value_of, are_digits, spelled}
 use Rattle.plural_base.proofs.ListTests.{list_all_weaker}
 use Rattle.plural_bytes.proofs.Plain.{tokens_are_plain}
-use Rattle.plural_image.specs.Shape.{word_token, address_token, all_words, one_to_eight, line_of}
+use Rattle.plural_sections.specs.Numbers.{word_token}
+use Rattle.plural_image.specs.Shape.{address_token, all_words, one_to_eight, line_of}
 use Rattle.plural_image.specs.Laws.{LinesArePlain}
 
 small_digit : (c : ℕ) → c < 128 → (not (is_digit c 16) || is_printable c) ≡ true

@@ -6,10 +6,10 @@ use Rattle.std.proofs.Math.Seq.{take-add}
 use Rattle.std.proofs.lemmas.Bool.{cases_Bool, and_parts, eqb-true}
 use Rattle.std.proofs.lemmas.List.{take_at, drop_at, take_all, length-take, length-drop, drop-drop, drop-replicate, append-nil, replicate-append-replicate}
 use Rattle.plural_bytes.specs.Lines.{TextLine, pieces, content_from, content_lines}
-use Rattle.plural_bytes.specs.Faults.{IsFaultless}
+use Rattle.plural_sections.specs.Faults.{IsFaultless}
 use Rattle.plural_image.specs.Image.{Breaks, overwritten, image_of}
 use Rattle.plural_image.specs.Print.{row_text, row_lines, image_text}
-use Rattle.plural_image.proofs.Imaged.{Reads, reads_nothing, reads_push}
+use Rattle.plural_image.proofs.ReadImage.{Reads, reads_nothing, reads_push}
 use Rattle.plural_image.proofs.Again.{row_back, row_first}
 
 -- ---- lists
@@ -112,4 +112,4 @@ image_again words rows e small fit =
     let start : so_far w words (8 * 0) ≡ replicate w 0 = ap (λ m. replicate {A = ℕ} m 0) (let z : w - 0 ≡ w = omega arith in z) in
     let all = rows_read w words refl small fit rows 1 0 0 [] (omega (arith, e)) (omega arith) (reads_nothing w (so_far w words (8 * 0)) start) in
     let n : w / 8 ≡ rows = omega (arith, e) in
-    rw n (all.reads.faultless, sym all.reads.image)
+    rw n (all.reads.known.faultless, sym all.reads.image)

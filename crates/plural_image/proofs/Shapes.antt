@@ -8,19 +8,8 @@ use Rattle.std.proofs.lemmas.List.{append-nil}
 use Rattle.plural_bytes.specs.declared.numerals.NumberError.{NumberError}
 use Rattle.plural_bytes.specs.Numerals.{spelled, value_of, are_digits, within}
 use Rattle.plural_bytes.proofs.Valued.{value_below}
-use Rattle.plural_image.specs.Shape.{word_token, all_words, one_to_eight}
-
-no_range : (t : List ℕ) (b : Bool) (e : NumberError) → are_digits 16 t ≡ b → length t ≡ 8 → Err e ≡ within 4294967295 (cond b (Some (value_of 16 t)) None) → None ≡ cond b (Some (value_of 16 t)) None
-no_range t true e d len h =
-    let below = value_below 16 t (and_parts (ltb 0 (length t)) (list_all (λ c. is_digit c 16) t) d).1 in
-    let p : 16 ^ length t ≡ 4294967296 = rw len refl in
-    let fits = le-leb (value_of 16 t) 4294967295 (omega (arith, below, p)) in
-    let g : Err e ≡ Ok (value_of 16 t) = h ∙ rw fits refl in
-    absurd cc
-no_range t false e d len h = refl
-
-pub word_none : (t : List ℕ) (e : NumberError) → length t ≡ 8 → Err e ≡ within 4294967295 (spelled 16 t) → None ≡ word_token t
-word_none t e len h = rw (eq-eqb (length t) 8 len) (no_range t (are_digits 16 t) e refl len h)
+use Rattle.plural_sections.specs.Numbers.{word_token}
+use Rattle.plural_image.specs.Shape.{all_words, one_to_eight}
 
 -- the words so far, and those that the tokens after them spell
 abbrev pub onto : List ℕ → Option (List ℕ) → Option (List ℕ)

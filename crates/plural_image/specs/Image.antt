@@ -1,7 +1,8 @@
 -- The faults of image lines, and the image that lines without a fault spell.
-use Rattle.std.specs.Prelude.{◌≡◌, ℕ, ◌+◌, ◌<◌, ◌⊎◌, List, ◌++◌, None, IsSomeAnd, take, drop, length, replicate, fold}
+use Rattle.std.specs.Prelude.{ℕ, ◌+◌, ◌<◌, ◌⊎◌, List, ◌++◌, take, drop, length, replicate, fold}
 use Rattle.std.specs.Option.{option_map_or}
 use Rattle.plural_bytes.specs.Lines.{TextLine}
+use Rattle.plural_sections.specs.LineKinds.{BreaksBy}
 use Rattle.plural_image.specs.Shape.{image_line}
 use Rattle.plural_image.specs.declared.fault.ImageKind.{ImageKind}
 use Rattle.plural_image.specs.declared.fault.ImageKind.TheVariants.{Form, Address}
@@ -10,7 +11,7 @@ use Rattle.plural_image.specs.declared.fault.ImageKind.TheVariants.{Form, Addres
 abbrev pub end_of : List ℕ → ℕ
 end_of text = option_map_or (λ p. p.0 + length p.1) (image_line text) 0
 
--- The address after the last word of the last line, 0 where there is no line.
+-- The address after the last word of the last line, 0 if there is no line.
 abbrev pub end_before : List TextLine → ℕ
 end_before before = fold (λ _ l. end_of l.1) 0 before
 
@@ -18,10 +19,14 @@ end_before before = fold (λ _ l. end_of l.1) 0 before
 abbrev pub IsMisplaced : ℕ → ℕ → ℕ × List ℕ → Type 0
 IsMisplaced w floor p = (w < p.0 + length p.1) ⊎ (p.0 < floor)
 
--- A line's kinds of fault, by the lines before it: form where it has not the shape, address where it has and is misplaced.
+-- The table of kinds, for a line of this address and these words after lines whose last word lies before `floor`.
+abbrev pub HasKind : (w floor : ℕ) → ℕ × List ℕ → ImageKind → Type 0
+HasKind w floor p Form = ⊥
+HasKind w floor p Address = IsMisplaced w floor p
+
+-- A line without a shape has a fault of form alone; one with a shape has those of the table.
 abbrev pub Breaks : ℕ → List TextLine → List ℕ → ImageKind → Type 0
-Breaks w before text Form = image_line text ≡ None
-Breaks w before text Address = IsSomeAnd (image_line text) (IsMisplaced w (end_before before))
+Breaks w = BreaksBy image_line Form end_before (λ n floor. HasKind w floor)
 
 -- The kinds in their order.
 abbrev pub rank : ImageKind → ℕ

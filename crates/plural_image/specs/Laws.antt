@@ -1,9 +1,10 @@
 -- Reading what was printed.
 use Rattle.std.specs.Prelude.{◌≡◌, ℕ, ◌*◌, ◌<◌, ◌≤◌, List, Some, length, IsTrue}
 use Rattle.std.specs.List.{AllByRecursion, list_all}
-use Rattle.plural_image.specs.Shape.{word_token, image_line}
+use Rattle.plural_sections.specs.Numbers.{word_token}
+use Rattle.plural_image.specs.Shape.{image_line}
 use Rattle.plural_bytes.specs.Lines.{content_lines}
-use Rattle.plural_bytes.specs.Faults.{IsFaultless}
+use Rattle.plural_sections.specs.Faults.{IsFaultless}
 use Rattle.plural_bytes.specs.Laws.{is_plain}
 use Rattle.plural_image.specs.Image.{Breaks, image_of}
 use Rattle.plural_image.specs.Print.{hex_text, row_text, image_text}

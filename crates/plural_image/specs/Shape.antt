@@ -1,11 +1,7 @@
 -- The shape of an image line: an address of eight hexadecimal digits and a colon, and one to eight words of eight digits.
 use Rattle.std.specs.Prelude.{ℕ, ◌&&◌, List, [], ◌∷◌, Option, Some, None, take, length, option_map, option_and_then, slice_index, nat_lt, nat_le, if◌then◌else◌, ◌==◌}
 use Rattle.plural_bytes.specs.Lines.{tokens}
-use Rattle.plural_bytes.specs.Numerals.{spelled}
-
--- The word that exactly eight hexadecimal digits of either case spell.
-abbrev pub word_token : List ℕ → Option ℕ
-word_token t = if length t == 8 then spelled 16 t else None
+use Rattle.plural_sections.specs.Numbers.{word_token}
 
 -- The address that eight hexadecimal digits and a colon spell.
 abbrev pub address_token : List ℕ → Option ℕ

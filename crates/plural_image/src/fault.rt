@@ -1,9 +1,9 @@
 //! What is wrong with image lines.
 
 ghost use Rattle.std.specs.Prelude.{◌≡◌};
-ghost use Rattle.plural_image.specs.declared.fault.ImageError.TheVariants.{Memory};
+ghost use Rattle.plural_image.specs.Kinds.{image_fault};
 
-use std::alloc::AllocError;
+use plural_sections::{Fault, LineError};
 
 /// What is wrong with an image line. Of two kinds on one line the first is told.
 #[derive(Clone, Copy, Debug, PartialEq, Eq)]
@@ -17,18 +17,15 @@ pub enum ImageKind {
 }
 
 /// Why lines are no image.
-#[derive(Clone, Copy, Debug, PartialEq, Eq)]
-pub enum ImageError {
-    /// The first line with a fault, by its number, and the least kind of fault that it has.
-    At { line: u32, kind: ImageKind },
-    /// Memory ran out.
-    Memory,
-}
+pub type ImageError = LineError<ImageKind>;
 
-impl From<AllocError> for ImageError {
-    ghost from_gives = { λ _ e. e ≡ Memory };
+impl From<ImageKind> for Fault {
+    ghost from_gives = { λ kind fault. fault ≡ image_fault kind };
 
-    fn from(_e: AllocError) -> ImageError {
-        ImageError::Memory
+    fn from(kind: ImageKind) -> Fault {
+        match kind {
+            ImageKind::Form => Fault::Form,
+            ImageKind::Address => Fault::Address,
+        }
     }
 }

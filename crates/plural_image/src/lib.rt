@@ -9,14 +9,13 @@
 #![tactic(auto)]
 
 mod fault;
-mod hexadecimal;
 pub mod laws;
 mod print;
 mod read;
 mod shape;
 
 pub use fault::{ImageError, ImageKind};
-pub use hexadecimal::word_of;
 pub use plural_bytes::hex;
+pub use plural_sections::word_of;
 pub use print::print_image;
 pub use read::read_image;

@@ -2,11 +2,12 @@
 
 ghost use Rattle.std.specs.Prelude.{◌≡◌, ◌<◌, ◌^◌, option_map, IfSome};
 ghost use Rattle.plural_bytes.specs.Lines.{tokens};
-ghost use Rattle.plural_image.specs.Shape.{word_token, address_token, one_to_eight, image_line};
+ghost use Rattle.plural_sections.specs.Numbers.{word_token};
+ghost use Rattle.plural_image.specs.Shape.{address_token, one_to_eight, image_line};
 
-use crate::hexadecimal::word_of;
 use arrayvec::ArrayVec;
 use plural_bytes::next_token;
+use plural_sections::word_of;
 
 /// What an image line says.
 #[derive(Drop)]

@@ -11,10 +11,9 @@ use Rattle.plural_map.specs.Lookup.{number_of, has_task}
 use Rattle.plural_bytes.specs.Lines.{TextLine}
 use Rattle.plural_bytes.specs.declared.lines.Line.{Line}
 use Rattle.plural_bytes.specs.Spelled.{text_line, text_lines}
-use Rattle.plural_bytes.specs.Faults.{IsFaultless, IsFirstFault}
-use Rattle.plural_bytes.proofs.Faulted.{faultless_nil, faultless_push, first_before, length_before, first_fault}
+use Rattle.plural_sections.specs.Faults.{IsFaultless, IsFirstFault, closed}
+use Rattle.plural_sections.proofs.FirstFaults.{faultless_nil, faultless_push, first_before, length_before, first_fault}
 use Rattle.plural_map.specs.Value.{TaskValue}
-use Rattle.plural_map_text.specs.Rules.{closed}
 use Rattle.plural_trace.specs.declared.entry.Entry.{Entry}
 use Rattle.plural_log.specs.declared.line.LogLine.{LogLine}
 use Rattle.plural_log.specs.declared.line.LogLine.TheVariants as line

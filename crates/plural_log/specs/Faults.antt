@@ -1,14 +1,13 @@
 -- The faults of log lines: which kinds a line has, by how many lines stand before it.
 use Rattle.std.specs.Prelude.{◌≡◌, ℕ, ◌-◌, Bool, true, false, not, ◌||◌, ◌&&◌, List, Option, MatchOption, Some, None, length, is_none, nat_le, bytes_eq, ◌==◌, if◌then◌else◌, ⊤}
 use Rattle.plural_bytes.specs.Lines.{TextLine}
-use Rattle.plural_bytes.specs.Faults.{IsFirstFault}
+use Rattle.plural_sections.specs.Errors.{Tells}
 use Rattle.plural_map.specs.Value.{TaskValue}
 use Rattle.plural_map.specs.Lookup.{name_at, has_task}
-use Rattle.plural_map_text.specs.Rules.{is_between}
+use Rattle.plural_sections.specs.Numbers.{is_between}
 use Rattle.plural_log.specs.declared.fault.LogKind.{LogKind}
 use Rattle.plural_log.specs.declared.fault.LogKind.TheVariants as kinds
-use Rattle.plural_log.specs.declared.fault.LogError.{LogError}
-use Rattle.plural_log.specs.declared.fault.LogError.TheVariants as error
+use Rattle.plural_sections.specs.declared.line_error.LineError.{LineError}
 use Rattle.plural_log.specs.declared.line.EndShape.{EndShape}
 use Rattle.plural_log.specs.declared.line.EndShape.TheVariants as end
 use Rattle.plural_log.specs.declared.line.Counts.{Counts}
@@ -82,9 +81,8 @@ abbrev pub Breaks : List TaskValue → List TextLine → List ℕ → LogKind �
 Breaks tasks before text kind = MatchOption (shape_of text) (kind ≡ kinds.Form) (λ s. HasKind tasks (length before) (log_of tasks before) s kind)
 
 -- What an error says of a section: the first fault, or that memory ran out.
-abbrev pub Faults : List TaskValue → List TextLine → LogError → Type 0
-Faults tasks lines error.Memory = ⊤
-Faults tasks lines (error.At number kind) = IsFirstFault rank (Breaks tasks) lines number kind
+abbrev pub Faults : List TaskValue → List TextLine → LineError LogKind → Type 0
+Faults tasks lines error = Tells rank (Breaks tasks) lines error
 
 -- The least kind of a line of a shape behind n lines that spell the log, if it has one.
 abbrev pub least_kind : List TaskValue → (n : ℕ) → LogValue → LogLine → Option LogKind

@@ -2,11 +2,10 @@
 use Rattle.std.specs.Prelude.{◌≡◌, ℕ, IsTrue}
 use Rattle.std.specs.List.{All}
 use Rattle.plural_bytes.specs.Lines.{content_lines}
-use Rattle.plural_bytes.specs.Faults.{IsFaultless}
+use Rattle.plural_sections.specs.Faults.{IsFaultless, closed}
 use Rattle.plural_base.specs.Names.{is_name}
 use Rattle.plural_map.specs.Value.{TaskValue, MapValue}
 use Rattle.plural_map.specs.Limits.{IsMap}
-use Rattle.plural_map_text.specs.Rules.{closed}
 use Rattle.plural_trace.specs.Logs.{LogValue, IsLog}
 use Rattle.plural_log.specs.Print.{log_text}
 use Rattle.plural_log.specs.Spelled.{log_of}

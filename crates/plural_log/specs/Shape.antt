@@ -2,8 +2,7 @@
 use Rattle.std.specs.Prelude.{ℕ, ◌&&◌, List, [], ◌∷◌, Option, Some, None, option_map, option_and_then, codes, bytes_eq, if◌then◌else◌}
 use Rattle.plural_bytes.specs.Lines.{tokens}
 use Rattle.plural_base.specs.Names.{name_of}
-use Rattle.plural_image.specs.Shape.{word_token}
-use Rattle.plural_map_text.specs.Shape.{counted}
+use Rattle.plural_sections.specs.Numbers.{word_token, counted}
 use Rattle.plural_map.specs.declared.outcome.Outcome.{Outcome}
 use Rattle.plural_map.specs.declared.outcome.Outcome.TheVariants as outcome
 use Rattle.plural_log.specs.declared.line.EndShape.{EndShape}

@@ -1,7 +1,7 @@
 ghost use Rattle.std.specs.Prelude.{◌≡◌};
-ghost use Rattle.plural_log.specs.declared.fault.LogError.TheVariants.{Memory};
+ghost use Rattle.plural_log.specs.Kinds.{log_fault};
 
-use std::alloc::AllocFailed;
+use plural_sections::{Fault, LineError};
 
 /// What is wrong with a log line. A line's fault is the first of these that it has.
 #[derive(Clone, Copy, Debug, PartialEq, Eq)]
@@ -17,18 +17,17 @@ pub enum LogKind {
 }
 
 /// Why there is no log.
-#[derive(Clone, Copy, Debug, PartialEq, Eq)]
-pub enum LogError {
-    /// The first line that has a fault, by its number in the text from 1, and the fault.
-    At { line: u32, kind: LogKind },
-    /// Memory ran out.
-    Memory,
-}
+pub type LogError = LineError<LogKind>;
 
-impl<T: Drop> From<AllocFailed<T>> for LogError {
-    ghost from_gives = { λ _ e. e ≡ Memory };
+impl From<LogKind> for Fault {
+    ghost from_gives = { λ kind fault. fault ≡ log_fault kind };
 
-    fn from(_e: AllocFailed<T>) -> LogError {
-        LogError::Memory
+    fn from(kind: LogKind) -> Fault {
+        match kind {
+            LogKind::Form => Fault::Form,
+            LogKind::Number => Fault::Number,
+            LogKind::Name => Fault::Name,
+            LogKind::Count => Fault::Count,
+        }
     }
 }

@@ -14,7 +14,7 @@ use crate::numbers::number_of;
 use crate::shape::shape_of;
 use plural_bytes::Name;
 use plural_map::Task;
-use plural_map_text::is_between;
+use plural_sections::is_between;
 use plural_trace::Log;
 use std::collections::BTreeMap;
 

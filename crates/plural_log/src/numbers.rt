@@ -5,7 +5,7 @@ ghost use Rattle.std.specs.Cmp.Lexicographic.{slice_cmp};
 ghost use Rattle.std.specs.Option.{option_or};
 ghost use Rattle.std.specs.Ordering.{nat_cmp};
 ghost use Rattle.plural_map.specs.Lookup.{number_of};
-ghost use Rattle.plural_log.specs.declared.fault.LogError.TheVariants.{Memory};
+ghost use Rattle.plural_sections.specs.declared.line_error.LineError.TheVariants.{Memory};
 ghost use Rattle.plural_log.specs.Numbers.{number_for};
 
 use crate::fault::LogError;

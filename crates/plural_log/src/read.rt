@@ -1,13 +1,12 @@
 //! Reading log lines.
 ghost use Rattle.std.specs.Prelude.{◌≡◌, ◌≤◌, ◌<◌, ℕ, List, length, false, OnOk, IfOk, IfErr, MatchResult};
 ghost use Rattle.std.specs.List.{All};
-ghost use Rattle.plural_bytes.specs.Faults.{IsFaultless};
+ghost use Rattle.plural_sections.specs.Faults.{IsFaultless, closed};
 ghost use Rattle.plural_bytes.specs.Spelled.{text_lines};
 ghost use Rattle.plural_map.specs.Lookup.{number_of};
-ghost use Rattle.plural_map_text.specs.Rules.{closed};
 ghost use Rattle.plural_map.specs.Value.{TaskValue};
 ghost use Rattle.plural_trace.specs.declared.entry.Entry.{Entry};
-ghost use Rattle.plural_log.specs.declared.fault.LogError.TheVariants.{Memory};
+ghost use Rattle.plural_sections.specs.declared.line_error.LineError.TheVariants.{Memory};
 ghost use Rattle.plural_log.specs.Numbers.{task_of};
 ghost use Rattle.plural_log.specs.Spelled.{end_value, entry_value, with_line, log_of};
 ghost use Rattle.plural_log.specs.Faults.{is_no_end, is_out_of_range, Breaks, Faults};

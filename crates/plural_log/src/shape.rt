@@ -6,9 +6,8 @@ ghost use Rattle.plural_log.specs.Shape.{first_line, outcome_of, task_line, fiel
 
 use crate::line::{Counts, EndShape, LogLine, Times};
 use plural_bytes::{Name, is_word, next_token, trim_start};
-use plural_image::word_of;
 use plural_map::Outcome;
-use plural_map_text::counted;
+use plural_sections::{counted, word_of};
 
 fn first_line(text: &[u8]) -> Option<LogLine>
     ensures { result ≡ first_line (tokens text.now) }

@@ -4,8 +4,8 @@ use Rattle.std.specs.Prelude.{◌||◌, ◌&&◌, fold, is_some, is_none, nat_lt
 use Rattle.std.proofs.lemmas.Bool.{or_parts, both_ways}
 use Rattle.std.proofs.lemmas.List.{append-nil}
 use Rattle.plural_bytes.specs.Lines.{TextLine}
-use Rattle.plural_bytes.specs.Faults.{IsFaultless}
-use Rattle.plural_bytes.proofs.Faulted.{faultless_nil, faultless_push}
+use Rattle.plural_sections.specs.Faults.{IsFaultless}
+use Rattle.plural_sections.proofs.FirstFaults.{faultless_nil, faultless_push}
 use Rattle.plural_statement.specs.Statement.{label_of, line_of}
 use Rattle.plural_statement.specs.declared.statement.KernelLine.{KernelLine}
 use Rattle.plural_asm.specs.Labels.{words_in, size_of, is_option, has_label, place_after, place_of, noted}

@@ -3,11 +3,11 @@ use Rattle.std.proofs.Common.{◌≡◌, ℕ, true, false, List, [], ◌∷◌, 
 use Rattle.std.specs.Prelude.{not, codes}
 use Rattle.std.specs.List.{list_all}
 use Rattle.plural_bytes.specs.Lines.{TextLine}
-use Rattle.plural_bytes.specs.Faults.{IsFaultless}
+use Rattle.plural_sections.specs.Faults.{IsFaultless}
 use Rattle.plural_asm.specs.Labels.{names_of}
 use Rattle.plural_asm.specs.Rules.{Breaks}
 use Rattle.plural_generator.specs.Kernels.{fir_text, top_text, best_text, loud_text, quiet_text, done_text, kernel_text}
-use Rattle.plural_bundle.specs.Sections.{closes}
+use Rattle.plural_sections.specs.Sections.{closes}
 use Rattle.plural_bundle.specs.Laws.{Stay}
 use Rattle.plural_made.proofs.LineNumbers.{lines_from}
 use Rattle.plural_made.proofs.TextLines.{EndsLine}

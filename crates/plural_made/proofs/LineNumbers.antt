@@ -4,9 +4,9 @@ use Rattle.std.specs.Prelude.{fold, replicate, IsSomeAnd, MatchOption}
 use Rattle.std.specs.Option.{option_map_or}
 use Rattle.std.proofs.lemmas.List.{length-map, map-append}
 use Rattle.plural_bytes.specs.Lines.{TextLine, has_text, pieces, content, content_from}
-use Rattle.plural_bytes.specs.Faults.{IsFaultless}
+use Rattle.plural_sections.specs.Faults.{IsFaultless, closed}
 use Rattle.plural_map_text.specs.Rules as map_rules
-use Rattle.plural_map_text.specs.Rules.{closed, HasKind}
+use Rattle.plural_map_text.specs.Rules.{HasKind}
 use Rattle.plural_map_text.specs.Shape.{shape_of}
 use Rattle.plural_map_text.specs.Parts.{parts_of, whole, map_of, with_line, nothing}
 use Rattle.plural_map_text.specs.declared.fault.MapKind as map_fault

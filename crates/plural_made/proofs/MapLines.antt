@@ -10,14 +10,15 @@ use Rattle.plural_base.specs.Names.{is_name}
 use Rattle.plural_regions.specs.declared.region.Region.{Region}
 use Rattle.plural_map.specs.declared.outcome.Dep.{Dep}
 use Rattle.plural_map.specs.Value.{TaskValue, MapValue}
-use Rattle.plural_map_text.specs.Rules.{Breaks, IsMapText, closed, has}
+use Rattle.plural_map_text.specs.Rules.{Breaks, IsMapText, has}
+use Rattle.plural_sections.specs.Faults.{closed}
 use Rattle.plural_map_text.specs.Parts.{map_of}
 use Rattle.plural_map_text.specs.Print.{map_text}
 use Rattle.plural_reread.specs.Laws.{IsSpelledRegion, IsSpelledTask, IsVersion1}
 use Rattle.plural_reread.proofs.RoundTrip.{map_round_trip}
 use Rattle.plural_generator.specs.Tasks.{fir_task, top_task, best_task, loud_task, quiet_task, done_task, made_tasks, made_map}
 use Rattle.plural_generator.proofs.MapLimits.{made_within}
-use Rattle.plural_bundle.specs.Sections.{closes}
+use Rattle.plural_sections.specs.Sections.{closes}
 use Rattle.plural_bundle.specs.Laws.{Stay}
 use Rattle.plural_made.proofs.TextLines.{EndsLine}
 use Rattle.plural_made.proofs.SectionLines.{stay_by}

@@ -19,7 +19,8 @@ use Rattle.plural_map.specs.Order.{IsDeclaredInOrder}
 use Rattle.plural_map_text.specs.RegionOf.{region_of}
 use Rattle.plural_map_text.specs.Parts.{Parts, tasks_of, with_line, nothing, whole, quota_of, is_dup}
 use Rattle.plural_map.specs.Lookup.{number_of, has_task}
-use Rattle.plural_map_text.specs.Rules.{has, has_dep, task_count, instance_count, is_between, is_out_of_place, is_out_of_range, is_misnamed, is_too_many}
+use Rattle.plural_map_text.specs.Rules.{has, has_dep, task_count, instance_count, is_out_of_place, is_out_of_range, is_misnamed, is_too_many}
+use Rattle.plural_sections.specs.Numbers.{is_between}
 use Rattle.plural_map_text.specs.Verdicts.{IsInsideAt}
 use Rattle.plural_map_text.proofs.TaskLimits.{IsDeclared, task_from_declared, dep_added, region_added, length_all, quotas_all, names_all, declared_all, new_name_all, number_below}
 use Rattle.plural_map.proofs.DeclarationOrder.{declared_order, among_range}

@@ -9,19 +9,19 @@ use Rattle.std.proofs.lemmas.List.Sums.{fold_push}
 use Rattle.plural_bytes.specs.Lines.{TextLine}
 use Rattle.plural_bytes.specs.declared.lines.Line.{Line}
 use Rattle.plural_bytes.specs.Spelled.{text_line, text_lines}
-use Rattle.plural_bytes.specs.Faults.{IsFaultless, IsFirstFault}
-use Rattle.plural_bytes.proofs.Faulted.{faultless_nil, faultless_push, first_fault, first_before, length_before}
+use Rattle.plural_sections.specs.Faults.{IsFaultless, IsFirstFault, closed}
+use Rattle.plural_sections.proofs.FirstFaults.{faultless_nil, faultless_push, first_fault, first_before, length_before}
 use Rattle.plural_map_text.specs.declared.line.MapLine.{MapLine}
 use Rattle.plural_map_text.specs.declared.fault.MapKind.{MapKind}
 use Rattle.plural_map_text.specs.declared.fault.MapKind.TheVariants as kinds
-use Rattle.plural_map_text.specs.declared.fault.MapError.{MapError}
-use Rattle.plural_map_text.specs.declared.fault.MapError.TheVariants as error
+use Rattle.plural_sections.specs.declared.line_error.LineError.{LineError}
+use Rattle.plural_sections.specs.declared.line_error.LineError.TheVariants as error
 use Rattle.plural_map.specs.Value.{MapValue}
 use Rattle.plural_map.specs.Limits.{IsMap}
 use Rattle.plural_map.specs.Order.{order_of}
 use Rattle.plural_map_text.specs.Shape.{shape_of}
 use Rattle.plural_map_text.specs.Parts.{Parts, with_line, with_read, with_text, nothing, parts_of, whole, map_of, tasks_of}
-use Rattle.plural_map_text.specs.Rules.{HasKind, ClosesEarly, Breaks, IsMapText, closed, rank, Faults, is_out_of_place, is_out_of_range, is_misnamed, is_too_many}
+use Rattle.plural_map_text.specs.Rules.{HasKind, ClosesEarly, Breaks, IsMapText, rank, Faults, is_out_of_place, is_out_of_range, is_misnamed, is_too_many}
 use Rattle.plural_map_text.specs.Verdicts.{IsVerdict, IsInsideAt, IsFine, IsLineFault}
 use Rattle.plural_map_text.proofs.Verdicts.{no_kind}
 use Rattle.plural_map_text.proofs.MapLimits.{IsKept, kept_nothing, kept_blank, kept_more, kept_map, kept_in_order}
@@ -164,7 +164,7 @@ pub read_order : (version : ℕ) (labels : List (List ℕ)) (all lines : List Te
 read_order version labels all lines p r = declared_order (tasks_of p) (kept_in_order (length lines) p r.kept)
 
 -- What the reader answers after a whole section.
-pub read_answer : (version : ℕ) (labels : List (List ℕ)) (xs : List Line) (end : ℕ) (p : Parts) (r : Result MapValue MapError) → Reads version labels (text_lines xs) (text_lines xs) p → 2 ≤ length xs
+pub read_answer : (version : ℕ) (labels : List (List ℕ)) (xs : List Line) (end : ℕ) (p : Parts) (r : Result MapValue (LineError MapKind)) → Reads version labels (text_lines xs) (text_lines xs) p → 2 ≤ length xs
     → IfOk r (λ m. m ≡ whole p) → IfErr r (λ e. e ≡ error.Memory)
     → MatchResult r (λ m. IsMapText version labels (text_lines xs) end × (m ≡ map_of (text_lines xs))) (λ e. Faults version labels (text_lines xs) end e)
 read_answer version labels xs end p (Ok m) r h ok err =

@@ -1,6 +1,6 @@
 pub use Rattle.plural_bytes.specs.Lines
 pub use Rattle.plural_bytes.specs.Spelled
-pub use Rattle.plural_bytes.specs.Faults
+pub use Rattle.plural_sections.specs.Faults
 pub use Rattle.plural_regions.specs.Rights
 pub use Rattle.plural_regions.specs.Bounds
 pub use Rattle.plural_map.specs.Value
@@ -14,3 +14,4 @@ pub mod Rules
 pub mod Verdicts
 pub mod Drafts
 pub mod Print
+pub mod Kinds

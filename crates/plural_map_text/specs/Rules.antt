@@ -3,14 +3,15 @@ use Rattle.std.specs.Prelude.{◌≡◌, ℕ, ◌+◌, ◌%◌, Bool, true, fals
 use Rattle.std.specs.List.{list_any}
 use Rattle.std.specs.Option.{option_map_or}
 use Rattle.plural_bytes.specs.Lines.{TextLine}
-use Rattle.plural_bytes.specs.Faults.{IsFaultless, IsFirstFault}
+use Rattle.plural_sections.specs.Faults.{IsFaultless, closed}
+use Rattle.plural_sections.specs.Errors.{Tells}
+use Rattle.plural_sections.specs.Numbers.{is_between}
 use Rattle.plural_regions.specs.Bounds.{IsLeastOutside}
 use Rattle.plural_map_text.specs.declared.line.MapLine.{MapLine}
 use Rattle.plural_map_text.specs.declared.line.MapLine.TheVariants as line
 use Rattle.plural_map_text.specs.declared.fault.MapKind.{MapKind}
 use Rattle.plural_map_text.specs.declared.fault.MapKind.TheVariants as kinds
-use Rattle.plural_map_text.specs.declared.fault.MapError.{MapError}
-use Rattle.plural_map_text.specs.declared.fault.MapError.TheVariants as error
+use Rattle.plural_sections.specs.declared.line_error.LineError.{LineError}
 use Rattle.plural_map.specs.Value.{TaskValue}
 use Rattle.plural_map_text.specs.Shape.{shape_of}
 use Rattle.plural_map_text.specs.RegionOf.{region_of}
@@ -26,10 +27,6 @@ is_out_of_place n p (line.Cache sets ways) = not (n == 1)
 is_out_of_place n p (line.Task name kind entry budget) = nat_lt n 2
 is_out_of_place n p (line.After name when) = nat_lt n 2 || is_none p.current
 is_out_of_place n p (line.Region mode base stride count) = nat_lt n 2 || is_none p.current
-
--- The number is there and lies between these two.
-abbrev pub is_between : ℕ → ℕ → Option ℕ → Bool
-is_between low high n = option_map_or (λ n. nat_le low n && nat_le n high) n false
 
 -- The words of a memory: a multiple of 8 from 8 to 65,536.
 abbrev pub are_words : Option ℕ → Bool
@@ -141,16 +138,10 @@ Breaks version labels all before (c ∷ cs) kind =
     MatchOption (shape_of (c ∷ cs)) (kind ≡ kinds.Form)
     (λ s. HasKind labels (length before) (parts_of before) s kind)
 
--- The lines of a section and the line that closes it, which is seen as a line without text.
-abbrev pub closed : List TextLine → ℕ → List TextLine
-closed lines end = lines ++ (end, []) ∷ []
-
 -- What an error says of the lines of a section and the number of the line that closes it: the first fault, or that
 -- memory ran out.
-abbrev pub Faults : (version : ℕ) → List (List ℕ) → List TextLine → (end : ℕ) → MapError → Type 0
-Faults version labels lines end error.Memory = ⊤
-Faults version labels lines end (error.At number kind) =
-    IsFirstFault rank (Breaks version labels lines) (closed lines end) number kind
+abbrev pub Faults : (version : ℕ) → List (List ℕ) → List TextLine → (end : ℕ) → LineError MapKind → Type 0
+Faults version labels lines end error = Tells rank (Breaks version labels lines) (closed lines end) error
 
 -- The lines of a section and the line that closes it have no fault.
 abbrev pub IsMapText : (version : ℕ) → List (List ℕ) → List TextLine → (end : ℕ) → Type 0

@@ -1,7 +1,7 @@
 -- The shapes of map lines.
 use Rattle.std.specs.Prelude.{ℕ, ◌&&◌, List, [], ◌∷◌, Option, Some, None, option_map, option_and_then, codes, bytes_eq, if◌then◌else◌}
 use Rattle.plural_bytes.specs.Lines.{tokens}
-use Rattle.plural_bytes.specs.Numerals.{numeral, bounded}
+use Rattle.plural_sections.specs.Numbers.{counted}
 use Rattle.plural_base.specs.Names.{name_of}
 use Rattle.plural_regions.specs.declared.region.Mode.{Mode}
 use Rattle.plural_regions.specs.declared.region.Mode.TheVariants.{Read, Write}
@@ -11,10 +11,6 @@ use Rattle.plural_map_text.specs.declared.line.TaskKind.{TaskKind}
 use Rattle.plural_map_text.specs.declared.line.TaskKind.TheVariants as kind
 use Rattle.plural_map.specs.declared.outcome.When.{When}
 use Rattle.plural_map.specs.declared.outcome.When.TheVariants.{Any, Code0, Code1}
-
--- The number of a numeral, if it is at most 4,294,967,295; nothing if the token is no numeral.
-abbrev pub counted : List ℕ → Option (Option ℕ)
-counted t = option_map (bounded 4294967295) (numeral t)
 
 -- `any`, `0` or `1`.
 abbrev pub when_of : List ℕ → Option When

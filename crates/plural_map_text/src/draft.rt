@@ -8,17 +8,18 @@ ghost use Rattle.plural_map_text.specs.RegionOf.{region_of};
 ghost use Rattle.plural_map_text.specs.Parts.{quota_of, is_dup, with_line, with_read, tasks_of};
 ghost use Rattle.plural_map.specs.Lookup.{number_of, has_task};
 ghost use Rattle.plural_map.specs.Value.{with_dep, with_region};
-ghost use Rattle.plural_map_text.specs.Rules.{has, has_dep, names_current, current_has_dep, is_between, is_out_of_place, is_out_of_range, is_misnamed, is_too_many, IsOutsideAt, task_count, instance_count};
+ghost use Rattle.plural_map_text.specs.Rules.{has, has_dep, names_current, current_has_dep, is_out_of_place, is_out_of_range, is_misnamed, is_too_many, IsOutsideAt, task_count, instance_count};
+ghost use Rattle.plural_sections.specs.Numbers.{is_between};
 ghost use Rattle.plural_map_text.specs.Verdicts.{IsInsideAt, IsVerdict};
 ghost use Rattle.plural_map_text.specs.Drafts.{draft_parts};
 
-use crate::counts::is_between;
 use crate::fault::MapKind;
 use crate::line::{MapLine, TaskKind};
 use arrayvec::ArrayVec;
 use plural_bytes::Name;
 use plural_map::{Dep, Task, TaskParts, has_task, number_of};
 use plural_regions::{Mode, Region};
+use plural_sections::is_between;
 use std::alloc::AllocFailed;
 
 /// The parts of a map that the lines so far spell.

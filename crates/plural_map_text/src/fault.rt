@@ -1,7 +1,7 @@
 ghost use Rattle.std.specs.Prelude.{◌≡◌};
-ghost use Rattle.plural_map_text.specs.declared.fault.MapError.TheVariants.{Memory};
+ghost use Rattle.plural_map_text.specs.Kinds.{map_fault};
 
-use std::alloc::AllocFailed;
+use plural_sections::{Fault, LineError};
 
 /// What is wrong with a map line. A line's fault is the first of these that it has.
 #[derive(Clone, Copy, Debug, PartialEq, Eq)]
@@ -21,18 +21,18 @@ pub enum MapKind {
 }
 
 /// Why there is no map.
-#[derive(Debug, Drop)]
-pub enum MapError {
-    /// The first line that has a fault, by its number in the text from 1, and the fault.
-    At { line: u32, kind: MapKind },
-    /// Memory ran out.
-    Memory,
-}
+pub type MapError = LineError<MapKind>;
 
-impl<T: Drop> From<AllocFailed<T>> for MapError {
-    ghost from_gives = { λ _ e. e ≡ Memory };
+impl From<MapKind> for Fault {
+    ghost from_gives = { λ kind fault. fault ≡ map_fault kind };
 
-    fn from(_e: AllocFailed<T>) -> MapError {
-        MapError::Memory
+    fn from(kind: MapKind) -> Fault {
+        match kind {
+            MapKind::Form => Fault::Form,
+            MapKind::Number => Fault::Number,
+            MapKind::Name => Fault::Name,
+            MapKind::Count => Fault::Count,
+            MapKind::Outside { k } => Fault::Outside { k },
+        }
     }
 }

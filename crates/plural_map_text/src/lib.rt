@@ -6,7 +6,6 @@
 //! reads the map's section through it, and `plural_generator` prints one.
 #![tactic(auto)]
 
-mod counts;
 mod draft;
 mod fault;
 mod line;
@@ -14,7 +13,6 @@ mod printing;
 mod read;
 mod shape;
 
-pub use counts::{counted, is_between};
 pub use fault::{MapError, MapKind};
 pub use line::{MapLine, TaskKind};
 pub use printing::{print, put_name_at};

@@ -3,7 +3,7 @@ ghost use Rattle.std.specs.Prelude.{◌≡◌, ◌<◌, ◌≤◌, ◌++◌, len
 ghost use Rattle.std.specs.List.{range_with_len};
 ghost use Rattle.std.specs.Option.{option_to_list};
 ghost use Rattle.plural_bytes.specs.Spelled.{text_lines};
-ghost use Rattle.plural_map_text.specs.declared.fault.MapError.TheVariants.{Memory};
+ghost use Rattle.plural_sections.specs.declared.line_error.LineError.TheVariants.{Memory};
 ghost use Rattle.plural_map.specs.Limits.{IsMap};
 ghost use Rattle.plural_map.specs.Order.{order_of};
 ghost use Rattle.plural_map_text.specs.Shape.{shape_of};

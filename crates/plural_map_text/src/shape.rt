@@ -3,11 +3,11 @@ ghost use Rattle.std.specs.Prelude.{◌≡◌};
 ghost use Rattle.plural_bytes.specs.Lines.{tokens};
 ghost use Rattle.plural_map_text.specs.Shape.{when_of, memory_line, cache_line, task_end, dup_task, task_line, after_line, region_line, shape_of};
 
-use crate::counts::counted;
 use crate::line::{MapLine, TaskKind};
 use plural_bytes::{Name, is_word, next_token};
 use plural_map::When;
 use plural_regions::Mode;
+use plural_sections::counted;
 
 fn when_of(text: &[u8]) -> Option<When>
     ensures { result ≡ when_of text.now }

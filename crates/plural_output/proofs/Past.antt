@@ -1,18 +1,17 @@
 -- Behind the last section.
 use Rattle.std.proofs.Common.{◌≡◌, ℕ, suc, ◌+◌, true, false, List, [], ◌∷◌, ◌++◌, refl, ap, sym, subst, ◌∙◌, append_assoc, append-nil, arith}
 use Rattle.plural_bytes.specs.Lines.{TextLine, has_text}
-use Rattle.plural_bytes.specs.Faults.{IsFaultless}
-use Rattle.plural_bytes.proofs.Faulted.{faultless_push}
-use Rattle.plural_map_text.specs.Rules.{closed}
+use Rattle.plural_sections.specs.Faults.{IsFaultless, closed}
+use Rattle.plural_sections.proofs.FirstFaults.{faultless_push}
 use Rattle.plural_map.specs.Value.{TaskValue}
-use Rattle.plural_bundle.specs.declared.fault.Fault.{Fault}
-use Rattle.plural_bundle.specs.declared.fault.Fault.TheVariants as fault
-use Rattle.plural_bundle.specs.declared.fault.BundleError.{BundleError}
-use Rattle.plural_bundle.specs.Sections.{closings, since}
+use Rattle.plural_sections.specs.declared.fault.Fault.{Fault}
+use Rattle.plural_sections.specs.declared.fault.Fault.TheVariants as fault
+use Rattle.plural_sections.specs.declared.line_error.LineError.{LineError}
+use Rattle.plural_sections.specs.Sections.{closings, since}
 use Rattle.plural_bundle.specs.Rules.{PastBreaks}
-use Rattle.plural_bundle.specs.Borders.{AllBlank, IsLeftOver}
-use Rattle.plural_bundle.proofs.Cut.{all_append}
-use Rattle.plural_bundle.proofs.Behind.{closings_more}
+use Rattle.plural_sections.specs.Borders.{AllBlank, IsLeftOver}
+use Rattle.plural_base.proofs.ListTests.{all_append}
+use Rattle.plural_sections.proofs.Closings.{closings_more}
 use Rattle.plural_bundle.proofs.Staged.{rank_low}
 use Rattle.plural_output.specs.Rules.{SectionBreaks, Breaks}
 use Rattle.plural_output.specs.Answer.{IsOutput, Faults}
@@ -42,7 +41,7 @@ module _ (tasks : List TaskValue) (words : ℕ) (all rest : List TextLine) (s : 
       subst (IsFaultless (Breaks tasks words)) (sym (stage_closed tasks words all rest 2 end s))
       (past_blank [] (closed rest end) (all_append (λ l. has_text l.1 ≡ false) rest ((end, []) ∷ []) h (refl, tt)) front_good)
 
-  pub past_first : (end : ℕ) (e : BundleError) → IsLeftOver rest e → Faults tasks words all end e
+  pub past_first : (end : ℕ) (e : LineError Fault) → IsLeftOver rest e → Faults tasks words all end e
   past_first end e l = subst (Faults tasks words all end) (sym l.is) (record {
     before = s.front ++ l.before;
     text = l.line.1;

@@ -7,10 +7,11 @@ use Rattle.plural_image.specs.Image as image
 use Rattle.plural_log.specs.Faults as log
 use Rattle.plural_log.specs.declared.fault.LogKind.{LogKind}
 use Rattle.plural_log.specs.declared.fault.LogKind.TheVariants as log_kind
-use Rattle.plural_bundle.specs.Sections.{closes}
-use Rattle.plural_bundle.specs.Kinds.{rank, image_fault}
+use Rattle.plural_sections.specs.Sections.{closes}
+use Rattle.plural_sections.specs.Kinds.{rank}
+use Rattle.plural_image.specs.Kinds.{image_fault}
 use Rattle.plural_bundle.proofs.Sectioned.{in_closing, in_staying}
-use Rattle.plural_output.specs.Kinds.{log_fault}
+use Rattle.plural_log.specs.Kinds.{log_fault}
 use Rattle.plural_output.proofs.Staged.{Section}
 
 pub log_section : (tasks : List TaskValue) (words : ℕ) → Section tasks words 0 (codes "[image]") (log.Breaks tasks) log_fault

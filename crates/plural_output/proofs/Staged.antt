@@ -2,21 +2,20 @@
 use Rattle.std.proofs.Common.{◌≡◌, ℕ, ◌+◌, true, false, List, [], ◌∷◌, ◌++◌, refl, ap, sym, subst, ◌∙◌, append_assoc}
 use Rattle.std.specs.Prelude.{bytes_eq}
 use Rattle.plural_bytes.specs.Lines.{TextLine}
-use Rattle.plural_bytes.specs.Faults.{IsFaultless, IsFirstFault}
-use Rattle.plural_bytes.proofs.Faulted.{faultless_nil, faultless_push}
-use Rattle.plural_bytes.proofs.Sections.{Delegates, faultless_section, first_in_section}
-use Rattle.plural_map_text.specs.Rules.{closed}
+use Rattle.plural_sections.specs.Faults.{IsFaultless, IsFirstFault, closed}
+use Rattle.plural_sections.proofs.FirstFaults.{faultless_nil, faultless_push}
+use Rattle.plural_sections.proofs.Delegation.{Delegates, faultless_section, first_in_section}
 use Rattle.plural_map.specs.Value.{TaskValue}
-use Rattle.plural_bundle.specs.declared.fault.Fault.{Fault}
-use Rattle.plural_bundle.specs.declared.fault.Fault.TheVariants as fault
-use Rattle.plural_bundle.specs.declared.fault.BundleError.{BundleError}
-use Rattle.plural_bundle.specs.declared.fault.BundleError.TheVariants.{At}
-use Rattle.plural_bundle.specs.Sections.{closes}
-use Rattle.plural_bundle.specs.Kinds.{rank}
+use Rattle.plural_sections.specs.declared.fault.Fault.{Fault}
+use Rattle.plural_sections.specs.declared.fault.Fault.TheVariants as fault
+use Rattle.plural_sections.specs.declared.line_error.LineError.{LineError}
+use Rattle.plural_sections.specs.declared.line_error.LineError.TheVariants.{At}
+use Rattle.plural_sections.specs.Sections.{closes}
+use Rattle.plural_sections.specs.Kinds.{rank}
 use Rattle.plural_bundle.specs.Rules.{Renamed}
-use Rattle.plural_bundle.specs.Borders.{head_of, IsClosed, IsBehind, IsMissing}
-use Rattle.plural_bundle.proofs.Cut.{all_front, all_back}
-use Rattle.plural_bundle.proofs.Behind.{NoneCloses, Begins, begins_nothing, begins_next}
+use Rattle.plural_sections.specs.Borders.{head_of, IsClosed, IsHeaded, IsMissing}
+use Rattle.plural_base.proofs.ListTests.{all_front, all_back}
+use Rattle.plural_sections.proofs.Closings.{NoneCloses, Begins, begins_nothing, begins_next}
 use Rattle.plural_bundle.proofs.Staged.{tail_of, head_tail, head_closes, rank_low}
 use Rattle.plural_output.specs.Rules.{SectionBreaks, Breaks}
 use Rattle.plural_output.specs.Answer.{Faults}
@@ -40,7 +39,7 @@ pub rule : (tasks : List TaskValue) (words : ℕ) (all rest : List TextLine) (n 
 rule tasks words all rest n s before h text f = λ i. SectionBreaks tasks words (s.begins.count before h i) (s.begins.last before h i) text f
 
 -- a fault of form of what stands first behind lines without a fault
-pub form_first : (tasks : List TaskValue) (words : ℕ) (all front rest : List TextLine) (end : ℕ) (error : BundleError) → closed all end ≡ front ++ closed rest end → IsFaultless (Breaks tasks words) front
+pub form_first : (tasks : List TaskValue) (words : ℕ) (all front rest : List TextLine) (end : ℕ) (error : LineError Fault) → closed all end ≡ front ++ closed rest end → IsFaultless (Breaks tasks words) front
     → Breaks tasks words front (head_of rest end).1 fault.Form → error ≡ At (head_of rest end).0 fault.Form → Faults tasks words all end error
 form_first tasks words all front rest end error whole f b is = rw is (record {
   before = front;
@@ -87,13 +86,13 @@ module _ {S : Type 0} (tasks : List TaskValue) (words : ℕ) (all rest : List Te
       rw (section_closed lines back end e) (first_in_section rank (Breaks tasks words) rank_s Part of s.front lines (closed back end) number k same (delegates lines h) s.faultless f)
 
   -- what closes the section isn't the header that is due
-  pub section_missing : (lines back : List TextLine) (end : ℕ) (error : BundleError) → NoneCloses lines → rest ≡ lines ++ back → IsFaultless Part lines → IsClosed back → IsMissing due back end error → Faults tasks words all end error
+  pub section_missing : (lines back : List TextLine) (end : ℕ) (error : LineError Fault) → NoneCloses lines → rest ≡ lines ++ back → IsFaultless Part lines → IsClosed back → IsMissing due back end error → Faults tasks words all end error
   section_missing lines back end error h e f x m =
       form_first tasks words all (s.front ++ lines) back end error (section_closed lines back end e ∙ sym (append_assoc s.front lines (closed back end))) (section_faultless lines h f)
       (subst (λ X. X) (sym (rule tasks words all rest n s lines h (head_of back end).1 fault.Form)) (c.missing lines (head_of back end).1 (head_closes back end x) m.other)) m.is
 
   -- it is, and has no fault itself
-  pub stage_next : (lines back more : List TextLine) → NoneCloses lines → rest ≡ lines ++ back → IsFaultless Part lines → closes due ≡ true → IsBehind due back more
+  pub stage_next : (lines back more : List TextLine) → NoneCloses lines → rest ≡ lines ++ back → IsFaultless Part lines → closes due ≡ true → IsHeaded due back more
       → ((k : Fault) → SectionBreaks tasks words n lines due k → ⊥) → Stage tasks words all (n + 1) more
   stage_next lines back more h e f x b none =
       let line : TextLine = (b.number, due) in

@@ -2,11 +2,11 @@
 use Rattle.std.specs.Prelude.{ℕ, zero, suc, ◌⊎◌, List, [], codes}
 use Rattle.plural_bytes.specs.Lines.{TextLine}
 use Rattle.plural_map.specs.Value.{TaskValue}
-use Rattle.plural_bundle.specs.declared.fault.Fault.{Fault}
-use Rattle.plural_bundle.specs.Sections.{closes, closings, since}
+use Rattle.plural_sections.specs.declared.fault.Fault.{Fault}
+use Rattle.plural_sections.specs.Sections.{closes, closings, since}
 use Rattle.plural_bundle.specs.Rules.{IsNot, Renamed, InSection, ImageBreaks, PastBreaks}
 use Rattle.plural_log.specs.Faults as log
-use Rattle.plural_output.specs.Kinds.{log_fault}
+use Rattle.plural_log.specs.Kinds.{log_fault}
 
 -- A line of the log's section: a log line, or the header of the image, before which the log has to be whole.
 abbrev pub LogBreaks : List TaskValue → List TextLine → List ℕ → Fault → Type 0

@@ -3,7 +3,7 @@ use Rattle.std.specs.Prelude.{ℕ, List, codes}
 use Rattle.plural_bytes.specs.Lines.{TextLine}
 use Rattle.plural_map.specs.Value.{TaskValue}
 use Rattle.plural_image.specs.Image.{image_of}
-use Rattle.plural_bundle.specs.Sections.{up_to_header, section}
+use Rattle.plural_sections.specs.Sections.{up_to_header, section}
 use Rattle.plural_trace.specs.Logs.{LogValue}
 use Rattle.plural_log.specs.Spelled.{log_of}
 

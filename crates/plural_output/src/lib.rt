@@ -8,7 +8,6 @@
 //! and whose faults it answers. `plural_cli` prints what it runs and reads what it verifies by it.
 #![tactic(auto)]
 
-mod fault;
 mod output;
 mod parts;
 mod printing;

@@ -7,8 +7,8 @@ ghost use Rattle.plural_output.specs.Text.{output_text};
 use plural_bytes::{Memory, put};
 use plural_image::print_image;
 use plural_log::print_log;
-use plural_trace::Log;
 use plural_map::Map;
+use plural_trace::Log;
 use std::alloc::Global;
 
 /// The output of a run of the map: its log, which has one outcome for each task and whose entries are of its tasks, and

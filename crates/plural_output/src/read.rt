@@ -7,15 +7,13 @@ ghost use Rattle.plural_trace.specs.declared.entry.Entry.{Entry};
 ghost use Rattle.plural_output.specs.Value.{output_of};
 ghost use Rattle.plural_output.specs.Answer.{IsOutput, Faults};
 
-use crate::fault::log_error;
 use crate::output::Output;
 use plural_bundle::BundleError;
-use plural_bundle::border::{behind, first_number, nothing_behind};
-use plural_bundle::section::next_section;
 use plural_bytes::Line;
 use plural_image::read_image;
 use plural_log::read_log;
 use plural_map::Map;
+use plural_sections::{after_header, first_number, next_section, nothing_after, renamed};
 use std::alloc::Global;
 
 /// The log and the memory that the content lines of an output of a run of the map spell, or their first fault. `end` is
@@ -37,12 +35,9 @@ pub fn read_output(
 {
     let section = next_section(lines);
     let closing = first_number(section.rest, end);
-    let log = match read_log(alloc, map, section.lines, closing) {
-        Ok(log) => log,
-        Err(e) => return Err(log_error(e)),
-    };
-    let section = next_section(behind(section.rest, b"[image]", end)?);
-    let image = read_image(alloc, section.lines, map.words())?;
-    nothing_behind(behind(section.rest, b"[end]", end)?)?;
+    let log = renamed(read_log(alloc, map, section.lines, closing))?;
+    let section = next_section(after_header(section.rest, b"[image]", end)?);
+    let image = renamed(read_image(alloc, section.lines, map.words()))?;
+    nothing_after(after_header(section.rest, b"[end]", end)?)?;
     Ok(Output { log, image })
 }

@@ -8,7 +8,7 @@ use Rattle.std.proofs.lemmas.List.{append-nil, length_push}
 use Rattle.std.proofs.lemmas.List.Elements.{All-push}
 use Rattle.std.proofs.lemmas.List.Sums.{fold_push}
 use Rattle.plural_bytes.specs.Lines.{TextLine}
-use Rattle.plural_bytes.specs.Faults.{IsFaultless}
+use Rattle.plural_sections.specs.Faults.{IsFaultless}
 use Rattle.plural_base.specs.Names.{is_name}
 use Rattle.plural_regions.specs.declared.region.Region.{Region}
 use Rattle.plural_regions.specs.declared.region.Mode.{Mode}
@@ -24,9 +24,10 @@ use Rattle.plural_map_text.specs.RegionOf.{region_of}
 use Rattle.plural_map_text.specs.Shape.{shape_of}
 use Rattle.plural_map_text.specs.Parts.{Parts, with_line, with_text, nothing, parts_of, whole}
 use Rattle.plural_map.specs.Lookup.{number_of}
-use Rattle.plural_map_text.specs.Rules.{Breaks, HasKind, ClosesEarly, IsOutsideAt, is_between, is_out_of_place, is_out_of_range, is_misnamed, is_too_many, has}
+use Rattle.plural_map_text.specs.Rules.{Breaks, HasKind, ClosesEarly, IsOutsideAt, is_out_of_place, is_out_of_range, is_misnamed, is_too_many, has}
+use Rattle.plural_sections.specs.Numbers.{is_between}
 use Rattle.plural_map_text.specs.Verdicts.{IsInsideAt}
-use Rattle.plural_bytes.proofs.Faulted.{last_none}
+use Rattle.plural_sections.proofs.FirstFaults.{last_none}
 use Rattle.plural_map_text.proofs.TaskLimits.{length_all, declared_all}
 use Rattle.plural_map_text.proofs.MapLimits.{IsKept, between, kept_nothing, kept_blank, kept_more, kept_map}
 use Rattle.plural_reread.specs.Laws.{IsSpelledRegion, IsVersion1, MapFits}

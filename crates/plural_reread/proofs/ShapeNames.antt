@@ -9,7 +9,8 @@ use Rattle.plural_map_text.specs.declared.line.MapLine.{MapLine}
 use Rattle.plural_map_text.specs.declared.line.MapLine.TheVariants as line
 use Rattle.plural_map_text.specs.declared.line.TaskKind.{TaskKind}
 use Rattle.plural_map_text.specs.declared.line.TaskKind.TheVariants as kind
-use Rattle.plural_map_text.specs.Shape.{counted, when_of, memory_line, cache_line, task_end, dup_task, task_line, after_line, region_line, shape, shape_of}
+use Rattle.plural_sections.specs.Numbers.{counted}
+use Rattle.plural_map_text.specs.Shape.{when_of, memory_line, cache_line, task_end, dup_task, task_line, after_line, region_line, shape, shape_of}
 
 -- The task's name and its entry are names.
 abbrev pub HasNames : MapLine → Type 0

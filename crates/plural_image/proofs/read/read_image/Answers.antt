@@ -1,8 +1,8 @@
 use Rattle.std.proofs.Common.{◌≡◌, length, ap, refl, ◌∙◌, rules}
 use Rattle.std.proofs.lemmas.Bool.{both_ways}
-use Rattle.plural_bytes.proofs.Faulted.{written}
+use Rattle.plural_sections.proofs.FirstFaults.{written}
 use Rattle.plural_image.specs.Image.{overwritten}
-use Rattle.plural_image.proofs.Imaged.{form_first, address_first, reads_nothing, reads_more}
+use Rattle.plural_image.proofs.ReadImage.{form_first, address_first, reads_nothing, reads_more}
 use Rattle.plural_image.proofs.read.read_image.Goals as goal
 
 pub loop-line-init : goal.loop-line-init

@@ -1,6 +1,6 @@
 use Rattle.std.proofs.Common.{take}
 use Rattle.plural_bytes.specs.Spelled.{text_lines}
-use Rattle.plural_image.proofs.Imaged.{Reads}
+use Rattle.plural_image.proofs.ReadImage.{Reads}
 use Rattle.plural_image.proofs.read.read_image.Given as goal
 
 abbrev pub invariant-loop-line : goal.invariant-loop-line

@@ -1,6 +1,6 @@
 use Rattle.std.proofs.Common.{ap, ◌∙◌}
 use Rattle.plural_bytes.specs.Spelled.{text_lines}
-use Rattle.plural_bundle.proofs.Bordered.{cut_rest}
+use Rattle.plural_sections.proofs.Cuts.{cut_rest}
 use Rattle.plural_output.proofs.Parted.{bundle_is, output_is}
 use Rattle.plural_output.proofs.parts.split_parts.Goals as goal
 

@@ -7,77 +7,76 @@ use Rattle.std.proofs.lemmas.Bool.{cases_lt}
 use Rattle.plural_bytes.specs.Lines.{TextLine}
 use Rattle.plural_bytes.specs.declared.lines.Line.{Line}
 use Rattle.plural_bytes.specs.Spelled.{text_line, text_lines}
-use Rattle.plural_bytes.proofs.Faulted.{faultless_nil, faultless_push, first_fault}
-use Rattle.plural_bytes.specs.Faults.{IsFaultless, IsFirstFault}
+use Rattle.plural_sections.specs.Faults.{IsFirstFault}
+use Rattle.plural_sections.specs.LineKinds.{HasNone, IsLeast}
+use Rattle.plural_sections.proofs.ReadLines as reading
 use Rattle.plural_image.specs.Shape.{image_line}
-use Rattle.plural_image.specs.Image.{end_of, end_before, IsMisplaced, Breaks, rank, overwritten, placed, image_of}
+use Rattle.plural_image.specs.Image.{end_of, end_before, IsMisplaced, HasKind, Breaks, rank, overwritten, placed, image_of}
 use Rattle.plural_image.specs.declared.fault.ImageKind.{ImageKind}
 use Rattle.plural_image.specs.declared.fault.ImageKind.TheVariants as kinds
 
--- ---- what stands at a line, by its shape
+-- ---- the kinds of a line with a shape
 
-pub no_fault : (w : ℕ) (before : List TextLine) (text : List ℕ) (p : ℕ × List ℕ) → image_line text ≡ Some p → (IsMisplaced w (end_before before) p → ⊥) → (k : ImageKind) → Breaks w before text k → ⊥
-no_fault w before text p e ok kinds.Form b = absurd (let f : None ≡ Some p = sym b ∙ e in cc)
-no_fault w before text p e ok kinds.Address b = ok (rw e at b)
+no_kind : (w floor : ℕ) (p : ℕ × List ℕ) → (IsMisplaced w floor p → ⊥) → HasNone (HasKind w floor p)
+no_kind w floor p ok kinds.Form h = h
+no_kind w floor p ok kinds.Address h = ok h
 
-pub form_least : (w : ℕ) (before : List TextLine) (text : List ℕ) (k : ImageKind) → Breaks w before text k → rank kinds.Form ≤ rank k
-form_least w before text kinds.Form b = omega arith
-form_least w before text kinds.Address b = omega arith
-
-pub address_here : (w : ℕ) (before : List TextLine) (text : List ℕ) (p : ℕ × List ℕ) → image_line text ≡ Some p → IsMisplaced w (end_before before) p → Breaks w before text kinds.Address
-address_here w before text p e m = rw e m
-
-pub address_least : (w : ℕ) (before : List TextLine) (text : List ℕ) (p : ℕ × List ℕ) → image_line text ≡ Some p → (k : ImageKind) → Breaks w before text k → rank kinds.Address ≤ rank k
-address_least w before text p e kinds.Form b = absurd (let f : None ≡ Some p = sym b ∙ e in cc)
-address_least w before text p e kinds.Address b = omega arith
+address_least : (w floor : ℕ) (p : ℕ × List ℕ) → IsMisplaced w floor p → IsLeast rank (HasKind w floor p) kinds.Address
+address_least w floor p m = (m, least)
+  where
+    least : (k : ImageKind) → HasKind w floor p k → rank kinds.Address ≤ rank k
+    least kinds.Form h = absurd h
+    least kinds.Address h = omega arith
 
 -- ---- one more line
 
-pub placed_more : (w : ℕ) (lines : List TextLine) (l : TextLine) (p : ℕ × List ℕ) → image_line l.1 ≡ Some p → image_of w (lines ++ l ∷ []) ≡ overwritten (image_of w lines) p.0 p.1
+placed_more : (w : ℕ) (lines : List TextLine) (l : TextLine) (p : ℕ × List ℕ) → image_line l.1 ≡ Some p → image_of w (lines ++ l ∷ []) ≡ overwritten (image_of w lines) p.0 p.1
 placed_more w lines l p e = fold_push placed (replicate w 0) lines l ∙ ap (λ o. option_map_or (λ q. overwritten (image_of w lines) q.0 q.1) o (image_of w lines)) e
 
-pub end_more : (lines : List TextLine) (l : TextLine) (p : ℕ × List ℕ) → image_line l.1 ≡ Some p → end_before (lines ++ l ∷ []) ≡ p.0 + length p.1
+end_more : (lines : List TextLine) (l : TextLine) (p : ℕ × List ℕ) → image_line l.1 ≡ Some p → end_before (lines ++ l ∷ []) ≡ p.0 + length p.1
 end_more lines l p e = fold_push (λ _ m. end_of m.1) 0 lines l ∙ ap (λ o. option_map_or (λ q. q.0 + length q.1) o 0) e
 
+-- Overwriting words leaves as many.
 pub length-overwritten : (words : List ℕ) (a : ℕ) (new : List ℕ) → a + length new ≤ length words → length (overwritten words a new) ≡ length words
 length-overwritten words a new h =
     omega (arith, length-append (take a words) (new ++ drop (a + length new) words), length-append new (drop (a + length new) words), length-take a words, length-drop (a + length new) words, h)
 
 -- ---- what the reader knows after some lines
 
+-- The lines have no fault; the words are those that they spell, and the last of them lies before `floor`.
 pub record Reads (w : ℕ) (lines : List TextLine) (words : List ℕ) (floor : ℕ) : Type 0 where
-  pub faultless : IsFaultless (Breaks w) lines
+  pub known : reading.Reads image_line kinds.Form end_before (λ n f. HasKind w f) lines floor
   pub image : words ≡ image_of w lines
-  pub floor_is : floor ≡ end_before lines
   pub len : length words ≡ w
 
+-- Before any line the words are zeros.
 pub reads_nothing : (w : ℕ) (words : List ℕ) → words ≡ replicate w 0 → Reads w [] words 0
-reads_nothing w words e = record { faultless = faultless_nil (Breaks w); image = e; floor_is = refl; len = ap length e ∙ length-replicate {A = ℕ} w 0 }
+reads_nothing w words e = record { known = reading.reads_nothing rank image_line kinds.Form end_before (λ n f. HasKind w f) 0 refl; image = e; len = ap length e ∙ length-replicate {A = ℕ} w 0 }
 
+-- A line without a shape is the first with a fault, after lines without one.
 pub form_first : (w : ℕ) (xs : List Line) (i : ℕ) (d : Line) (words : List ℕ) (floor : ℕ) → i < length xs → Reads w (text_lines (take i xs)) words floor
     → None ≡ image_line (get_or xs i d).text.now → IsFirstFault rank (Breaks w) (text_lines xs) (get_or xs i d).number kinds.Form
-form_first w xs i d words floor l r shape =
-    first_fault rank (Breaks w) text_line xs i d kinds.Form l r.faultless (sym shape) (form_least w (text_lines (take i xs)) (get_or xs i d).text.now)
+form_first w xs i d words floor l r shape = reading.line_first rank image_line kinds.Form end_before (λ n f. HasKind w f) xs i d floor kinds.Form l r.known (rw (← shape) refl)
 
+-- So is a misplaced line.
 pub address_first : (w : ℕ) (xs : List Line) (i : ℕ) (d : Line) (words : List ℕ) (floor a : ℕ) (new : List ℕ) → i < length xs → Reads w (text_lines (take i xs)) words floor
     → Some (a, new) ≡ image_line (get_or xs i d).text.now → IsMisplaced w floor (a, new) → IsFirstFault rank (Breaks w) (text_lines xs) (get_or xs i d).number kinds.Address
 address_first w xs i d words floor a new l r shape m =
-    first_fault rank (Breaks w) text_line xs i d kinds.Address l r.faultless
-    (address_here w (text_lines (take i xs)) (get_or xs i d).text.now (a, new) (sym shape) (rw (← r.floor_is) m))
-    (address_least w (text_lines (take i xs)) (get_or xs i d).text.now (a, new) (sym shape))
+    reading.line_first rank image_line kinds.Form end_before (λ n f. HasKind w f) xs i d floor kinds.Address l r.known (rw (← shape) (address_least w floor (a, new) m))
 
+-- A line that fits after the others is read, too.
 pub reads_push : (w : ℕ) (lines : List TextLine) (line : TextLine) (words written : List ℕ) (floor a : ℕ) (new : List ℕ) → Reads w lines words floor
     → image_line line.1 ≡ Some (a, new) → a + length new ≤ w → floor ≤ a → written ≡ overwritten words a new → Reads w (lines ++ line ∷ []) written (a + length new)
-reads_push w lines line words written floor a new r shape fits rises e = record {
-  faultless = faultless_push (Breaks w) lines line r.faultless (no_fault w lines line.1 (a, new) shape apart);
-  image = e ∙ ap (λ ws. overwritten ws a new) r.image ∙ sym (placed_more w lines line (a, new) shape);
-  floor_is = sym (end_more lines line (a, new) shape);
+reads_push w ls line words written floor a new r shape fits rises e = record {
+  known = reading.reads_push rank image_line kinds.Form end_before (λ n f. HasKind w f) ls line floor (a + length new) (a, new) r.known shape (no_kind w floor (a, new) apart) (sym (end_more ls line (a, new) shape));
+  image = e ∙ ap (λ ws. overwritten ws a new) r.image ∙ sym (placed_more w ls line (a, new) shape);
   len = ap length e ∙ length-overwritten words a new (omega (arith, fits, r.len)) ∙ r.len;
 }
   where
-    apart : IsMisplaced w (end_before lines) (a, new) → ⊥
-    apart m = elim m [ inl h ↦ omega (arith, h, fits) | inr h ↦ omega (arith, h, r.floor_is, rises) ]
+    apart : IsMisplaced w floor (a, new) → ⊥
+    apart m = elim m [ inl h ↦ omega (arith, h, fits) | inr h ↦ omega (arith, h, rises) ]
 
+-- The same of the i-th of the code's lines.
 pub reads_more : (w : ℕ) (xs : List Line) (i : ℕ) (d : Line) (words written : List ℕ) (floor a : ℕ) (new : List ℕ) → i < length xs → Reads w (text_lines (take i xs)) words floor
     → Some (a, new) ≡ image_line (get_or xs i d).text.now → (IsMisplaced w floor (a, new) → ⊥) → written ≡ overwritten words a new
     → Reads w (text_lines (take (i + 1) xs)) written (a + length new)

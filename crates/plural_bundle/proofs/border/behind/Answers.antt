@@ -1,7 +1,0 @@
-use Rattle.std.proofs.Common.{ap, sym, ◌∙◌}
-use Rattle.std.specs.Prelude.{bytes_eq}
-use Rattle.plural_bundle.proofs.Bordered.{behind_header}
-use Rattle.plural_bundle.proofs.border.behind.Goals as goal
-
-pub returns-clause-answer : goal.returns-clause-answer
-returns-clause-answer c = behind_header c.args.lines.now c.args.header.now c.requires (sym (ap (λ t. bytes_eq t c.args.header.now) c.first_text.ensures) ∙ sym c.is_word.ensures ∙ c.if-not-is_word.false)

@@ -1,6 +1,0 @@
-use Rattle.std.proofs.Common.{sym, ◌∙◌}
-use Rattle.plural_image.proofs.Shapes.{word_none}
-use Rattle.plural_image.proofs.hexadecimal.word_of.Goals as goal
-
-pub returns-in-Err : goal.returns-in-Err
-returns-in-Err c = word_none c.args.token.now c.in-Err.field-0 c.if-token-ne8.false (sym c.in-Err.is ∙ c.digits.ensures)
