@@ -4,7 +4,7 @@ use Rattle.std.specs.Prelude.{◌||◌, ◌&&◌, ⊤, is_none, is_some}
 use Rattle.std.specs.List.{AllByRecursion, enumerate_from}
 use Rattle.std.proofs.lemmas.Bool.{both_ways, or_from, le-ltb}
 use Rattle.plural_bytes.specs.Lines.{TextLine, pieces, content_from, content_lines}
-use Rattle.plural_bytes.proofs.Lined.{line_first}
+use Rattle.plural_bytes.proofs.PrintedLines.{line_first}
 use Rattle.plural_statement.specs.Statement.{label_of, instruction, line_of}
 use Rattle.plural_asm.specs.Labels.{words_in, size_of, place_after, place_of}
 use Rattle.plural_asm.specs.Words.{target_offset, words_at, gathered, label_at, labels_of}

@@ -4,7 +4,7 @@ use Rattle.std.specs.List.{list_all}
 use Rattle.std.proofs.lemmas.Bool.{and_from}
 use Rattle.std.proofs.lemmas.List.Folds.{list_all-append}
 use Rattle.plural_base.proofs.ListTests.{HasNone, none_pass, position_none, all_append}
-use Rattle.plural_bytes.proofs.Lined.{is_inner, EndsPlain, IsLine, all_inner, ends_of, ends_behind, plain_line, line_more}
+use Rattle.plural_bytes.proofs.PrintedLines.{is_inner, EndsInToken, IsLine, all_inner, ends_of, ends_behind, plain_line, line_more}
 use Rattle.plural_statement.specs.Statement.{is_colon, label_of, unlabelled}
 use Rattle.plural_asm.proofs.Plain.{is_word, is_solid, IsOperand, solid_no_colon, solid_of, plain_of}
 
@@ -19,7 +19,7 @@ pub record IsUnlabelled (text : List ℕ) : Type 0 where
 -- what stands behind a mnemonic's blank
 pub record IsTail (text : List ℕ) : Type 0 where
   pub inner : list_all is_inner text ≡ true
-  pub ends : EndsPlain text
+  pub ends : EndsInToken text
   pub no_colon : HasNone is_colon text
 
 pub last_tail : (x : List ℕ) → IsOperand x → IsTail x

@@ -6,7 +6,7 @@ use Rattle.std.proofs.lemmas.Bool.{and_from, and_parts, not-true, not_from_false
 use Rattle.plural_bytes.specs.Lines.{is_blank, tokens}
 use Rattle.plural_base.proofs.ListTests.{HasNone, list_all_weaker, none_pass}
 use Rattle.plural_bytes.proofs.Cuts.{cut_at, uncut}
-use Rattle.plural_bytes.proofs.Lined.{is_plain, plain_parts}
+use Rattle.plural_bytes.proofs.PrintedLines.{is_token_byte, plain_parts}
 use Rattle.plural_bytes.proofs.Tokens.{is_token, tokens_joined}
 use Rattle.plural_statement.specs.Operands.{is_comma, is_open, alone, operands}
 use Rattle.plural_statement.specs.Statement.{is_colon}
@@ -33,7 +33,7 @@ solid_parts c h =
     let q = and_parts (ltb 39 c) (not (eqb c 44)) p.0 in
     record { above = ltb-true 39 c q.0; no_comma = not-true (eqb c 44) q.1; no_colon = not-true (eqb c 58) p.1 }
 
-solid_plain : (c : ℕ) → is_solid c ≡ true → is_plain c ≡ true
+solid_plain : (c : ℕ) → is_solid c ≡ true → is_token_byte c ≡ true
 solid_plain c h =
     let l = (solid_parts c h).above in
     rw (ne_eqb c 10 (λ e. omega arith), ne_eqb c 35 (λ e. omega arith), ne_eqb c 32 (λ e. omega arith), ne_eqb c 9 (λ e. omega arith), ne_eqb c 13 (λ e. omega arith)) refl
@@ -58,11 +58,11 @@ word_no_open c h = let l : 44 < c = word_above c h in ne_eqb c 40 (λ e. omega a
 pub solid_of : (xs : List ℕ) → list_all is_word xs ≡ true → list_all is_solid xs ≡ true
 solid_of xs h = list_all_weaker is_word is_solid word_solid xs h
 
-pub plain_of : (xs : List ℕ) → list_all is_solid xs ≡ true → list_all is_plain xs ≡ true
-plain_of xs h = list_all_weaker is_solid is_plain solid_plain xs h
+pub plain_of : (xs : List ℕ) → list_all is_solid xs ≡ true → list_all is_token_byte xs ≡ true
+plain_of xs h = list_all_weaker is_solid is_token_byte solid_plain xs h
 
 pub no_blank : (xs : List ℕ) → list_all is_word xs ≡ true → HasNone is_blank xs
-no_blank xs h = none_pass is_plain is_blank (λ c p. (plain_parts c p).full) xs (plain_of xs (solid_of xs h))
+no_blank xs h = none_pass is_token_byte is_blank (λ c p. (plain_parts c p).full) xs (plain_of xs (solid_of xs h))
 
 -- an operand: one byte or more, and none that ends an operand
 pub record IsOperand (t : List ℕ) : Type 0 where

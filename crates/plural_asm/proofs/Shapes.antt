@@ -9,7 +9,7 @@ use Rattle.std.proofs.lemmas.List.Folds.{list_all-append}
 use Rattle.plural_bytes.specs.Lines.{is_blank, drop_while}
 use Rattle.plural_base.specs.Names.{name_of}
 use Rattle.plural_base.proofs.ListTests.{HasNone, position_at, before_at, after_at, drop_past}
-use Rattle.plural_bytes.proofs.Lined.{begins_of, no_front}
+use Rattle.plural_bytes.proofs.PrintedLines.{begins_of, no_front}
 use Rattle.plural_isa.specs.RegisterNames.{named}
 use Rattle.plural_statement.specs.Mnemonics.{mnemonic_text, mnemonic_of}
 use Rattle.plural_statement.specs.Operands.{is_open, one_of, two_of, three_of, unsigned_in, signed_in, halves, indexed}

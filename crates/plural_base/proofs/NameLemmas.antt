@@ -6,12 +6,13 @@ use Rattle.std.proofs.lemmas.List.{take_at, drop_at, drop-replicate, length-appe
 use Rattle.plural_base.specs.Names.{is_name, begins_name, continues_name}
 use Rattle.plural_base.specs.NameFields.{IsKept}
 
-pub name_short : (text : List ℕ) → is_name text ≡ true → length text ≤ 24
+name_short : (text : List ℕ) → is_name text ≡ true → length text ≤ 24
 name_short [] e = omega arith
 name_short (c ∷ cs) e =
     let p = leb-true (length cs) 23 (and_parts (leb (length cs) 23) (begins_name c) (and_parts (leb (length cs) 23 && begins_name c) (list_all continues_name cs) e).0).0 in
     omega (arith, p)
 
+-- A name's bytes, padded with zeros, are the fields of that name.
 pub kept : (text copied : List ℕ) → copied ≡ text → is_name text ≡ true → IsKept (record { bytes = copied ++ drop (length text) (replicate 24 0); len = length text })
 kept text copied e named =
     let short = name_short text named in

@@ -7,7 +7,7 @@ use Rattle.std.proofs.lemmas.Fmt.{decimal_by_steps, decimal_nonempty}
 use Rattle.std.proofs.lemmas.Bool.{agree_below_at, eqb-true, ltb-true, lt-ltb, le-leb, ne_eqb, and_from, and_parts, and_left, and_right}
 use Rattle.std.proofs.lemmas.List.Folds.{list_all-append}
 use Rattle.plural_bytes.specs.Numerals.{value_of, spelled, numeral, bounded}
-use Rattle.plural_bytes.proofs.Valued.{value_of_push}
+use Rattle.plural_bytes.proofs.DigitValues.{value_of_push}
 
 -- Each digit of a number passes what the ten digits pass.
 pub all_decimal : (p : ℕ → Bool) → ((d : ℕ) → d < 10 → p (48 + d) ≡ true) → (n : ℕ) → n < 2 ^ 64 → list_all p (decimal n) ≡ true
@@ -44,6 +44,7 @@ minus_apart (c ∷ cs) h =
     let e : eqb 45 c ≡ false = ne_eqb 45 c (λ e. omega arith) in
     and_left (eqb 45 c) true e
 
+-- The digits of a number begin with no sign.
 pub no_sign : (n : ℕ) → n < 2 ^ 64 → starts_with nat_eq (decimal n) (codes "-") ≡ false
 no_sign n small = minus_apart (decimal n) (numeric n small)
 
@@ -64,14 +65,16 @@ spelled_back n small =
     let digits = all_decimal (λ c. is_digit c 10) (λ d l. agree_below_at (λ d. is_digit (48 + d) 10) (λ d. true) 10 d refl l) n small in
     rw (and_from _ _ some digits, value_back n small) refl
 
+-- The decimal digits of a number are the numeral of that number.
 pub numeral_back : (n : ℕ) → n < 2 ^ 64 → numeral (decimal n) ≡ Some n
 numeral_back n small = rw (no_prefix (decimal n) (numeric n small)) (spelled_back n small)
 
+-- A number that isn't above the limit is within it.
 pub bounded_is : (limit n : ℕ) → n ≤ limit → bounded limit n ≡ Some n
 bounded_is limit n l = rw (le-leb n limit l) refl
 
 -- A printed number is read as that number where it isn't above the limit.
-pub bounded_back : (limit n : ℕ) → n ≤ limit → n < 2 ^ 64 → option_map (bounded limit) (numeral (decimal n)) ≡ Some (Some n)
+bounded_back : (limit n : ℕ) → n ≤ limit → n < 2 ^ 64 → option_map (bounded limit) (numeral (decimal n)) ≡ Some (Some n)
 bounded_back limit n l small = rw (numeral_back n small, bounded_is limit n l) refl
 
 -- So is one below 2^32.

@@ -7,7 +7,7 @@ use Rattle.std.proofs.lemmas.Bool.{agree_below_at, eqb-true, and_from}
 use Rattle.std.proofs.lemmas.List.Folds.{list_all-append}
 use Rattle.plural_bytes.specs.Numerals.{value_of}
 use Rattle.plural_bytes.specs.Hexadecimal.{hex_digit, hex_text}
-use Rattle.plural_bytes.proofs.Valued.{value_of_push}
+use Rattle.plural_bytes.proofs.DigitValues.{value_of_push}
 
 digit_back : (d : ℕ) → d < 16 → digit_value (hex_digit d) ≡ d
 digit_back d l = eqb-true _ _ (agree_below_at (λ d. eqb (digit_value (hex_digit d)) d) (λ d. true) 16 d refl l)
@@ -17,6 +17,7 @@ pub all_hex : (p : ℕ → Bool) → ((d : ℕ) → d < 16 → p (hex_digit d) �
 all_hex p h zero n = refl
 all_hex p h (suc k) n = list_all-append p (hex_text k (n / 16)) (hex_digit (n % 16) ∷ []) ∙ and_from _ _ (all_hex p h k (n / 16)) (and_from _ _ (h (n % 16) (omega arith)) refl)
 
+-- Each byte of a word's text is a hexadecimal digit.
 pub hex_digits : (k n : ℕ) → list_all (λ c. is_digit c 16) (hex_text k n) ≡ true
 hex_digits k n = all_hex (λ c. is_digit c 16) (λ d l. agree_below_at (λ d. is_digit (hex_digit d) 16) (λ d. true) 16 d refl l) k n
 

@@ -1,9 +1,9 @@
-pub mod Known
+pub mod KnownBytes
 pub mod Cuts
-pub mod Valued
-pub mod Numbered
-pub mod Plain
+pub mod DigitValues
+pub mod LineNumbers
+pub mod PlainBytes
 pub mod Decimals
 pub mod Hexadecimals
-pub mod Lined
+pub mod PrintedLines
 pub mod Tokens

@@ -12,25 +12,26 @@ use Rattle.plural_base.proofs.ListTests.{HasNone, list_all_weaker, none_pass}
 use Rattle.plural_bytes.proofs.Cuts.{cut_at, uncut}
 use Rattle.plural_bytes.proofs.Decimals.{all_decimal}
 use Rattle.plural_bytes.proofs.Hexadecimals.{all_hex}
-use Rattle.plural_bytes.proofs.Lined.{is_plain, IsLine, plain_parts, plain_line, line_more, line_first}
+use Rattle.plural_bytes.proofs.PrintedLines.{is_token_byte, IsLine, plain_parts, plain_line, line_more, line_first}
 
 -- ---- tokens
 
 -- A token has a byte, and neither blanks nor bytes that end a line or begin a comment.
 abbrev pub is_token : List ℕ → Bool
-is_token t = nat_lt 0 (length t) && list_all is_plain t
+is_token t = nat_lt 0 (length t) && list_all is_token_byte t
 
-pub token_plain : (t : List ℕ) → is_token t ≡ true → list_all is_plain t ≡ true
-token_plain t h = (and_parts (nat_lt 0 (length t)) (list_all is_plain t) h).1
+token_plain : (t : List ℕ) → is_token t ≡ true → list_all is_token_byte t ≡ true
+token_plain t h = (and_parts (nat_lt 0 (length t)) (list_all is_token_byte t) h).1
 
-pub token_some : (t : List ℕ) → is_token t ≡ true → 0 < length t
-token_some t h = ltb-true 0 (length t) (and_parts (nat_lt 0 (length t)) (list_all is_plain t) h).0
+token_some : (t : List ℕ) → is_token t ≡ true → 0 < length t
+token_some t h = ltb-true 0 (length t) (and_parts (nat_lt 0 (length t)) (list_all is_token_byte t) h).0
 
 -- Each is a token.
 abbrev pub AreTokens : List (List ℕ) → Type 0
 AreTokens [] = Unit {0}
 AreTokens (t ∷ ts) = (is_token t ≡ true) × AreTokens ts
 
+-- Each of several tokens is one.
 pub all_tokens : (ts : List (List ℕ)) → AreTokens ts → list_all is_token ts ≡ true
 all_tokens [] h = refl
 all_tokens (t ∷ ts) h = and_from _ _ h.0 (all_tokens ts h.1)
@@ -43,14 +44,15 @@ joined [] = []
 joined (t ∷ []) = t
 joined (t ∷ u ∷ ts) = t ++ 32 ∷ joined (u ∷ ts)
 
-no_blank : (t : List ℕ) → list_all is_plain t ≡ true → HasNone is_blank t
-no_blank t h = none_pass is_plain is_blank (λ c p. (plain_parts c p).full) t h
+no_blank : (t : List ℕ) → list_all is_token_byte t ≡ true → HasNone is_blank t
+no_blank t h = none_pass is_token_byte is_blank (λ c p. (plain_parts c p).full) t h
 
--- Plain bytes and what stands behind a space.
-pub split_cons : (xs ys : List ℕ) → list_all is_plain xs ≡ true → slice_split is_blank (xs ++ 32 ∷ ys) ≡ xs ∷ slice_split is_blank ys
+-- Plain bytes and what stands after a space.
+pub split_cons : (xs ys : List ℕ) → list_all is_token_byte xs ≡ true → slice_split is_blank (xs ++ 32 ∷ ys) ≡ xs ∷ slice_split is_blank ys
 split_cons xs ys h = cut_at is_blank xs 32 ys (no_blank xs h) refl
 
-pub split_end : (xs : List ℕ) → list_all is_plain xs ≡ true → slice_split is_blank xs ≡ xs ∷ []
+-- A token alone is one piece.
+pub split_end : (xs : List ℕ) → list_all is_token_byte xs ≡ true → slice_split is_blank xs ≡ xs ∷ []
 split_end xs h = uncut is_blank xs (no_blank xs h)
 
 split_joined : (t : List ℕ) (ts : List (List ℕ)) → list_all is_token (t ∷ ts) ≡ true → slice_split is_blank (joined (t ∷ ts)) ≡ t ∷ ts
@@ -63,13 +65,14 @@ all_stay : (ts : List (List ℕ)) → list_all is_token ts ≡ true → filter h
 all_stay [] h = refl
 all_stay (t ∷ ts) h =
     let p = and_parts (is_token t) (list_all is_token ts) h in
-    let some = (and_parts (nat_lt 0 (length t)) (list_all is_plain t) p.0).0 in
+    let some = (and_parts (nat_lt 0 (length t)) (list_all is_token_byte t) p.0).0 in
     cond-true _ _ _ some ∙ ap (λ x. t ∷ x) (all_stay ts p.1)
 
+-- The tokens of tokens with single spaces between them are these tokens.
 pub tokens_joined : (t : List ℕ) (ts : List (List ℕ)) → list_all is_token (t ∷ ts) ≡ true → tokens (joined (t ∷ ts)) ≡ t ∷ ts
 tokens_joined t ts h = ap (filter has_text) (split_joined t ts h) ∙ all_stay (t ∷ ts) h
 
-pub joined_line : (t : List ℕ) (ts : List (List ℕ)) → list_all is_token (t ∷ ts) ≡ true → IsLine (joined (t ∷ ts))
+joined_line : (t : List ℕ) (ts : List (List ℕ)) → list_all is_token (t ∷ ts) ≡ true → IsLine (joined (t ∷ ts))
 joined_line t [] h = let p = (and_parts (is_token t) true h).0 in plain_line t (token_plain t p) (token_some t p)
 joined_line t (u ∷ ts) h =
     let p = and_parts (is_token t) (list_all is_token (u ∷ ts)) h in
@@ -86,10 +89,11 @@ line_next n t ts rest h = line_first n (joined (t ∷ ts)) rest (joined_line t t
 -- A number's decimal digits are a token.
 pub decimal_token : (n : ℕ) → n < 4294967296 → is_token (decimal n) ≡ true
 decimal_token n small =
-    and_from _ _ (lt-ltb 0 (length (decimal n)) (decimal_nonempty n (omega arith))) (all_decimal is_plain (λ d l. agree_below_at (λ d. is_plain (48 + d)) (λ d. true) 10 d refl l) n (omega arith))
+    and_from _ _ (lt-ltb 0 (length (decimal n)) (decimal_nonempty n (omega arith))) (all_decimal is_token_byte (λ d l. agree_below_at (λ d. is_token_byte (48 + d)) (λ d. true) 10 d refl l) n (omega arith))
 
-pub hex_plain : (k n : ℕ) → list_all is_plain (hex_text k n) ≡ true
-hex_plain k n = all_hex is_plain (λ d l. agree_below_at (λ d. is_plain (hex_digit d)) (λ d. true) 16 d refl l) k n
+-- The text of a word may be a token.
+pub hex_plain : (k n : ℕ) → list_all is_token_byte (hex_text k n) ≡ true
+hex_plain k n = all_hex is_token_byte (λ d l. agree_below_at (λ d. is_token_byte (hex_digit d)) (λ d. true) 16 d refl l) k n
 
 -- The eight hexadecimal digits of a word are a token.
 pub hex_token : (n : ℕ) → is_token (hex_text 8 n) ≡ true
@@ -97,6 +101,7 @@ hex_token n = and_from _ _ refl (hex_plain 8 n)
 
 -- ---- names
 
+-- The bytes of a name are that name.
 pub name_back : (name : List ℕ) → is_name name ≡ true → name_of name ≡ Some name
 name_back name h = rw h refl
 
@@ -104,7 +109,7 @@ name_back name h = rw h refl
 apart : (p : ℕ → Bool) (c k : ℕ) → p k ≡ false → p c ≡ true → eqb c k ≡ false
 apart p c k f t = false_from_ne_true (eqb c k) (λ e. both_ways (p c) (ap p (eqb-true c k e) ∙ f) t)
 
-name_plain : (c : ℕ) → continues_name c ≡ true → is_plain c ≡ true
+name_plain : (c : ℕ) → continues_name c ≡ true → is_token_byte c ≡ true
 name_plain c h =
     rw (apart continues_name c 10 refl h, apart continues_name c 35 refl h, apart continues_name c 32 refl h, apart continues_name c 9 refl h, apart continues_name c 13 refl h) refl
 
@@ -115,4 +120,4 @@ name_token (c ∷ cs) h =
     let p = and_parts (leb (length cs) 23 && begins_name c) (list_all continues_name cs) h in
     let q = and_parts (leb (length cs) 23) (begins_name c) p.0 in
     let some : ltb 0 (length (c ∷ cs)) ≡ true = lt-ltb 0 (length (c ∷ cs)) (omega arith) in
-    and_from _ _ some (and_from _ _ (name_plain c (or_left (begins_name c) (is_ascii_digit c) q.1)) (list_all_weaker continues_name is_plain name_plain cs p.1))
+    and_from _ _ some (and_from _ _ (name_plain c (or_left (begins_name c) (is_ascii_digit c) q.1)) (list_all_weaker continues_name is_token_byte name_plain cs p.1))

@@ -1,5 +1,5 @@
 -- A source and a sink in memory, as contracts see them.
-use Rattle.std.specs.Prelude.{ℕ, ◌+◌, ◌-◌, ◌^◌, Bool, List, min, ◌==◌}
+use Rattle.std.specs.Prelude.{ℕ, Bool, List, ◌==◌}
 use Rattle.std.specs.List.{list_any}
 
 -- What a source in memory has: the bytes left, at most how many it gives in a call, the numbers of the calls that fail, and how many calls and failures there were.
@@ -22,7 +22,3 @@ pub record Drain : Type 0 where
 -- The call of this number is one of those that fail.
 abbrev pub is_listed : List ℕ → ℕ → Bool
 is_listed fail call = list_any (λ c. c == call) fail
-
--- One more, where a u64 holds it; else the last u64.
-abbrev pub one_more : ℕ → ℕ
-one_more n = min (n + 1) (2 ^ 64 - 1)

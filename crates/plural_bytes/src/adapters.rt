@@ -1,11 +1,9 @@
 //! Sources and sinks over std's readers and writers: the trusted edge.
 
-ghost use Rattle.std.specs.Prelude.{◌≡◌, ◌<◌, ◌≤◌, OnOk, IfOk};
-ghost use Rattle.std.specs.Result.{IsErr};
+ghost use Rattle.std.specs.Prelude.{◌≡◌, ◌<◌, ◌≤◌, IfOk};
 ghost use Rattle.std.specs.Io.{ReadsAtMost};
 ghost use Rattle.plural_bytes.specs.Causes.{HasCause};
 ghost use Rattle.plural_bytes.specs.Streams.{Reads, Writes, IsPart};
-ghost use Rattle.plural_bytes.specs.InMemory.{one_more};
 
 use crate::outside::{Failed, Sink, Source};
 use std::io::{Read, Write};
@@ -37,8 +35,6 @@ impl<R: Read> Source for StdSource<R> {
         ensures bound { ReadsAtMost result into.new }
         ensures bytes { Reads (R.remaining self.old.inner) (R.remaining self.new.inner) result into.new }
         ensures cause { HasCause self.old.faults self.new.faults result }
-        ensures failed { IsErr result → self.new.faults ≡ one_more self.old.faults }
-        ensures unfailed { OnOk result (self.new.faults ≡ self.old.faults) }
     {
         match self.inner.read(into) {
             Ok(n) => Ok(n),
@@ -78,8 +74,6 @@ impl<W: Write> Sink for StdSink<W> {
         ensures bound { IfOk result (λ n. IsPart n from.now) }
         ensures bytes { Writes (W.contents self.old.inner) (W.contents self.new.inner) result from.now }
         ensures cause { HasCause self.old.faults self.new.faults result }
-        ensures failed { IsErr result → self.new.faults ≡ one_more self.old.faults }
-        ensures unfailed { OnOk result (self.new.faults ≡ self.old.faults) }
     {
         match self.inner.write(from) {
             Ok(n) if n > 0 || from.is_empty() => {

@@ -1,11 +1,11 @@
-//! A source and a sink in memory, which fail where they are told to.
+//! A source and a sink in memory, which fail when they are told to.
 
-ghost use Rattle.std.specs.Prelude.{◌≡◌, ◌<◌, ◌≤◌, ◌+◌, ◌-◌, ◌↔◌, ◌⊎◌, ℕ, IsTrue, List, [], ◌++◌, Some, IfOk, OnOk, length, take, drop, min, vec_len, vec_capacity};
+ghost use Rattle.std.specs.Prelude.{◌≡◌, ◌<◌, ◌≤◌, ◌+◌, ◌-◌, ◌↔◌, ◌⊎◌, ℕ, IsTrue, List, [], ◌++◌, Some, IfOk, length, take, drop, min, vec_len, vec_capacity};
 ghost use Rattle.std.specs.Result.{IsErr};
 ghost use Rattle.std.specs.Io.{ReadsAtMost};
-ghost use Rattle.plural_bytes.specs.Causes.{HasCause};
+ghost use Rattle.plural_bytes.specs.Causes.{one_more, HasCause};
 ghost use Rattle.plural_bytes.specs.Streams.{Reads, Writes, IsPart};
-ghost use Rattle.plural_bytes.specs.InMemory.{is_listed, one_more};
+ghost use Rattle.plural_bytes.specs.InMemory.{is_listed};
 
 use crate::outside::{Failed, Sink, Source};
 use plural_base::Memory;
@@ -95,8 +95,6 @@ impl Source for MemSource {
         ensures amount { IfOk result (λ n. n ≡ min (min self.old.piece (length into.new)) (length self.old.left)) }
         ensures counted { self.new.calls ≡ one_more self.old.calls }
         ensures kept { (self.new.piece ≡ self.old.piece) × (self.new.fail ≡ self.old.fail) }
-        ensures failed { IsErr result → self.new.faults ≡ one_more self.old.faults }
-        ensures unfailed { OnOk result (self.new.faults ≡ self.old.faults) }
         ensures never { self.new.fail ≡ [] → self.new.faults ≡ 0 }
     {
         let call = self.begin_call();
@@ -208,8 +206,6 @@ impl Sink for MemSink {
         ensures refused { IsErr result → self.new.holds ≡ self.old.holds }
         ensures counted { self.new.calls ≡ one_more self.old.calls }
         ensures kept { (self.new.room ≡ self.old.room) × (self.new.piece ≡ self.old.piece) × (self.new.fail ≡ self.old.fail) }
-        ensures failed { IsErr result → self.new.faults ≡ one_more self.old.faults }
-        ensures unfailed { OnOk result (self.new.faults ≡ self.old.faults) }
     {
         let call = self.begin_call();
         if is_listed(&self.fail, call) || self.bytes.len() == self.room {

@@ -8,7 +8,7 @@
 //!
 //! Stands on std and the kit's `memchr`. Every reader and printer of texts stands on it; what the faults of a
 //! section's lines are is stated here once for all of them (`specs/Faults.antt`), and so are the
-//! lemmas that printed lines of tokens are read again as these tokens (`proofs/Lined.antt`,
+//! lemmas that printed lines of tokens are read again as these tokens (`proofs/PrintedLines.antt`,
 //! `proofs/Tokens.antt`, `proofs/Decimals.antt`, `proofs/Hexadecimals.antt`).
 #![tactic(auto)]
 

@@ -1,12 +1,12 @@
 //! The lines of a text, and the tokens of a line.
 
 ghost use Rattle.std.specs.Prelude.{◌≡◌, ◌+◌, ◌*◌, ◌<◌, ◌≤◌, [], ◌∷◌, length, drop, map, position, IfOk, IfSome, MatchOption, reverse};
-ghost use Rattle.std.specs.List.{before_first};
+ghost use Rattle.std.specs.List.{before_first, after_first};
 ghost use Rattle.plural_bytes.specs.Spelled.{text_lines};
 ghost use Rattle.plural_bytes.specs.Lines.{pieces, is_line_end, is_hash, is_blank, without_cr, drop_while, trimmed, content, content_lines, tokens};
 
-use plural_base::Memory;
 use memchr::{memchr, memchr_iter};
+use plural_base::Memory;
 use std::alloc::Global;
 
 /// A content line: a line of a text that isn't empty without its line end, its comment and its
@@ -112,7 +112,7 @@ pub fn content(piece: &[u8]) -> &[u8]
 }
 
 /// The content lines of a text, in order. It is cut at each LF, and a last line without one counts
-/// where it isn't empty.
+/// if it isn't empty.
 pub fn split(alloc: Global, text: &[u8]) -> Result<Vec<Line<'_>>, Memory>
     requires { length text.now ≤ 67108864 }
     ensures { IfOk result (λ v. text_lines v.items ≡ content_lines text.now) }
@@ -144,10 +144,11 @@ pub fn line_count(text: &[u8]) -> u32
     }
 }
 
-/// The first token of a line, and what stands after it. Tokens are a line's longest pieces without
-/// blanks.
+/// The first token of a line, and what stands after the blank that ends it. Tokens are a line's
+/// longest pieces without blanks.
 pub fn next_token(text: &[u8]) -> Option<(&[u8], &[u8])>
     ensures tokens { MatchOption result (tokens text.now ≡ []) (λ r. tokens text.now ≡ r.0.now ∷ tokens r.1.now) }
+    ensures rest { IfSome result (λ r. r.1.now ≡ after_first is_blank (drop_while is_blank text.now)) }
     ensures shorter { IfSome result (λ r. length r.1.now < length text.now) }
 {
     let rest = trim_start(text);

@@ -24,7 +24,7 @@ fn with_digit(value: Option<u64>, base: u32, digit: u32, limit: u64) -> Option<u
     if next > limit { None } else { Some(next) }
 }
 
-/// The number that digits of a base from 2 to 16 spell, the highest first, where it isn't above
+/// The number that digits of a base from 2 to 16 spell, the highest first, if it isn't above
 /// `limit`. Digits above 9 are letters of either case.
 pub fn digits(text: &[u8], base: u32, limit: u64) -> Result<u64, NumberError>
     requires base { (2 ≤ base) × (base ≤ 16) }
@@ -46,7 +46,7 @@ pub fn digits(text: &[u8], base: u32, limit: u64) -> Result<u64, NumberError>
     }
 }
 
-/// The number that a numeral spells, where it isn't above `limit`. A numeral is one or more decimal
+/// The number that a numeral spells, if it isn't above `limit`. A numeral is one or more decimal
 /// digits, or `0x` and one or more hexadecimal digits of either case.
 pub fn number(text: &[u8], limit: u64) -> Result<u64, NumberError>
     ensures { result ≡ within limit (numeral text.now) }

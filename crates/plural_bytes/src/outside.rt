@@ -11,13 +11,13 @@ pub struct Failed;
 
 /// Where bytes come from.
 pub trait Source {
-    /// The bytes still to come, `None` where the source doesn't tell them.
+    /// The bytes still to come, `None` if the source doesn't tell them.
     ghost left: { Self → Option (List ℕ) };
 
     /// How often it has failed: a u64 that never falls and stays at its last value.
     ghost faults: { Self → ℕ };
 
-    /// Fills a front of `into` with the next bytes, and answers how many. None come for an `into`
+    /// Fills a prefix of `into` with the next bytes, and answers how many. None come for an `into`
     /// that isn't empty only at the end. A call that fails takes nothing.
     fn read(&mut self, into: &mut [u8]) -> Result<usize, Failed>
         ensures bound { ReadsAtMost result into.new }
@@ -27,14 +27,14 @@ pub trait Source {
 
 /// Where bytes go.
 pub trait Sink {
-    /// The bytes taken so far, `None` where the sink doesn't tell them.
+    /// The bytes taken so far, `None` if the sink doesn't tell them.
     ghost holds: { Self → Option (List ℕ) };
 
     /// How often it has failed: a u64 that never falls and stays at its last value.
     ghost faults: { Self → ℕ };
 
-    /// Takes a front of `from`, and answers its length: at least 1 where `from` isn't empty. A call
-    /// that fails has taken some front, which may be empty.
+    /// Takes a prefix of `from`, and answers its length: at least 1 if `from` isn't empty. A call
+    /// that fails has taken some prefix, which may be empty.
     fn write(&mut self, from: &[u8]) -> Result<usize, Failed>
         ensures bound { IfOk result (λ n. IsPart n from.now) }
         ensures bytes { Writes (holds self.old) (holds self.new) result from.now }

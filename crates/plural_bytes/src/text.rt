@@ -1,4 +1,4 @@
-//! Texts: compared with words, and put one behind the other.
+//! Texts: compared with words, and put one after the other.
 
 ghost use Rattle.std.specs.Prelude.{◌≡◌, ◌<◌, ◌++◌, drop, bytes_eq, OnOk, OnErr};
 ghost use Rattle.std.specs.Fmt.{decimal};
@@ -12,7 +12,7 @@ pub fn is_word(text: &[u8], word: &[u8]) -> bool
     text == word
 }
 
-/// Puts a text behind what `out` has.
+/// Puts a text after what `out` has.
 pub fn put(out: &mut Vec<u8>, text: &[u8]) -> Result<(), Memory>
     ensures ok { OnOk result (out.new.items ≡ out.old.items ++ text.now) }
     ensures err { OnErr result (out.new.items ≡ out.old.items) }
@@ -39,7 +39,7 @@ fn write_decimal(text: &mut [u8; 10], n: u32) -> usize
     at
 }
 
-/// Puts a number behind what `out` has, in decimal digits without leading zeros.
+/// Puts a number after what `out` has, in decimal digits without leading zeros.
 pub fn put_number(out: &mut Vec<u8>, n: u32) -> Result<(), Memory>
     ensures ok { OnOk result (out.new.items ≡ out.old.items ++ decimal n) }
     ensures err { OnErr result (out.new.items ≡ out.old.items) }

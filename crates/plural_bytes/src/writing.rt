@@ -3,7 +3,7 @@
 ghost use Rattle.std.specs.Prelude.{◌≡◌, ◌<◌, ◌≤◌, List, ℕ, Option, OnOk, OnErr, length};
 ghost use Rattle.std.specs.Io.KnownBytes.{Appends};
 ghost use Rattle.plural_bytes.specs.Causes.{HasCause};
-ghost use Rattle.plural_bytes.specs.Streams.{AppendsFront};
+ghost use Rattle.plural_bytes.specs.Streams.{AppendsPrefix};
 
 use crate::outside::Sink;
 
@@ -12,10 +12,11 @@ use crate::outside::Sink;
 pub struct WriteFault;
 
 /// Writes the whole text: each write is handed all that is left of it, until nothing is or the
-/// sink fails.
+/// sink fails. An empty text is no write at all. How much each write takes is the sink's choice.
 pub fn write_all<K: Sink>(sink: &mut K, text: &[u8]) -> Result<(), WriteFault>
     ensures ok { OnOk result (Appends (K.holds sink.old) (K.holds sink.new) text.now) }
-    ensures err { OnErr result (AppendsFront (K.holds sink.old) (K.holds sink.new) text.now) }
+    ensures err { OnErr result (AppendsPrefix (K.holds sink.old) (K.holds sink.new) text.now) }
+    ensures nothing { length text.now ≡ 0 → sink.new ≡ sink.old }
     ensures cause { HasCause (K.faults sink.old) (K.faults sink.new) result }
 {
     let mut rest = text;

@@ -2,7 +2,7 @@
 use Rattle.std.specs.Prelude.{ℕ, ◌≡◌, ◌≢◌, ◌<◌, ◌≤◌, ◌⊎◌, List, Option, Some, None, String, string_bytes, length, map, IfSome}
 use Rattle.std.specs.declared.alloc.Global.{Global}
 use Rattle.std.specs.Io.KnownBytes.{Appends, IsAtEnd}
-use Rattle.plural_bytes.specs.Streams.{AppendsFront}
+use Rattle.plural_bytes.specs.Streams.{AppendsPrefix}
 use Rattle.plural_cli.specs.declared.command.Request.{Request}
 use Rattle.plural_cli.specs.declared.command.Request.TheVariants as request
 use Rattle.plural_cli.specs.declared.command.Command.TheVariants as command
@@ -74,7 +74,7 @@ AsksNothing words = command_of (map string_bytes words) ≡ None
 -- it, and the call ends with status 6.
 pub record Writes (status : ℕ) (text : List ℕ) (result : ℕ) (before after : Option (List ℕ)) : Type 0 where
   pub whole : result ≢ 6 → (result ≡ status) × Appends before after text
-  pub failed : result ≡ 6 → AppendsFront before after text
+  pub failed : result ≡ 6 → AppendsPrefix before after text
 
 -- The answer of a request to what a source held is written, unless the call ends with status 5 or 7.
 abbrev pub WritesAnswer : Request → (left : Option (List ℕ)) (result : ℕ) (before after : Option (List ℕ)) → Type 0

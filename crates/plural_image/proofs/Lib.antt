@@ -1,6 +1,6 @@
-pub mod Shapes
+pub mod LineShapes
 pub mod ReadImage
-pub mod Printed
-pub mod Again
-pub mod Rows
-pub mod Printable
+pub mod PrintedRows
+pub mod RowRoundTrip
+pub mod ImageRoundTrip
+pub mod PlainLines

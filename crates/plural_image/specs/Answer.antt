@@ -6,6 +6,6 @@ use Rattle.plural_image.specs.Image.{Breaks, rank}
 use Rattle.plural_sections.specs.declared.line_error.LineError.{LineError}
 use Rattle.plural_image.specs.declared.fault.ImageKind.{ImageKind}
 
--- An error with a line is the first fault of the lines; want of memory says nothing of them.
+-- An error with a line is the first fault of the lines; that memory ran out says nothing of them.
 abbrev pub Faults : ℕ → List TextLine → LineError ImageKind → Type 0
 Faults w lines error = Tells rank (Breaks w) lines error

@@ -2,7 +2,7 @@
 //!
 //! Promise: reading gives the words that the lines spell, or exactly their first fault
 //! (`specs/Image.antt`); printing gives the canonical lines (`specs/Print.antt`), which, read again,
-//! have no fault and spell the image (`laws::image_again`).
+//! have no fault and spell the image (`laws::image_round_trip`).
 //!
 //! Stands on `plural_bytes`. `plural_bundle`, `plural_output` and `plural_cli` read and print images
 //! by it, and `plural_log` single words of eight hexadecimal digits.

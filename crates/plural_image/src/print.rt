@@ -8,7 +8,7 @@ ghost use Rattle.plural_image.specs.Print.{row_lines, image_text};
 use plural_bytes::{Memory, hex};
 use std::alloc::Global;
 
-/// Puts a space and the digits of each word behind the text.
+/// Puts a space and the digits of each word after the text.
 fn put_words(out: &mut Vec<u8>, words: &[u32]) -> Result<(), Memory>
     ensures { OnOk result (out.new.items ≡ out.old.items ++ flat_map (λ w. 32 ∷ hex_text 8 w) words.now) }
 {
@@ -25,7 +25,7 @@ fn is_zero(words: &[u32]) -> bool
     words.iter().all(|w| *w == 0)
 }
 
-/// Puts the line of a row behind the text, where one of its words isn't 0.
+/// Puts the line of a row after the text, if one of its words isn't 0.
 fn put_row(out: &mut Vec<u8>, address: u32, words: &[u32]) -> Result<(), Memory>
     ensures { OnOk result (out.new.items ≡ out.old.items ++ row_lines address words.now) }
 {

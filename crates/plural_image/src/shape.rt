@@ -29,7 +29,7 @@ pub(crate) fn address_of(token: &[u8]) -> Option<u32>
     }
 }
 
-/// The words that the tokens of a text spell, where they are one to eight.
+/// The words that the tokens of a text spell, if they are one to eight.
 pub(crate) fn words_of(text: &[u8]) -> Option<ArrayVec<u32, 8>>
     ensures { option_map (λ v. v.items) result ≡ one_to_eight (tokens text.now) }
 {
@@ -48,7 +48,7 @@ pub(crate) fn words_of(text: &[u8]) -> Option<ArrayVec<u32, 8>>
     if words.is_empty() { None } else { Some(words) }
 }
 
-/// What the content of a line says, where it is an image line.
+/// What the content of a line says, if it is an image line.
 pub(crate) fn line_of(text: &[u8]) -> Option<ImageLine>
     ensures { option_map (λ l. (l.address, l.words.items)) result ≡ image_line text.now }
 {

@@ -12,7 +12,7 @@ use Rattle.plural_bytes.proofs.Decimals.{counted_back}
 use Rattle.plural_bytes.proofs.Tokens.{is_token, AreTokens, all_tokens, joined, tokens_joined, line_next, decimal_token, hex_token, name_back, name_token}
 use Rattle.plural_core.specs.declared.end.End.{End}
 use Rattle.plural_core.specs.declared.end.End.TheVariants as ended
-use Rattle.plural_image.proofs.Again.{word_back}
+use Rattle.plural_image.proofs.RowRoundTrip.{word_back}
 use Rattle.plural_map.specs.declared.outcome.Outcome.{Outcome}
 use Rattle.plural_map.specs.declared.outcome.Outcome.TheVariants as outcome
 use Rattle.plural_map.specs.Value.{TaskValue, MapValue}

@@ -8,7 +8,7 @@ use Rattle.plural_bytes.specs.Lines.{TextLine}
 use Rattle.plural_sections.specs.Faults.{IsFaultless}
 use Rattle.plural_image.specs.Image.{Breaks, image_of}
 use Rattle.plural_image.specs.Print.{image_text}
-use Rattle.plural_image.proofs.Rows.{image_again}
+use Rattle.plural_image.proofs.ImageRoundTrip.{image_round_trip}
 use Rattle.plural_generator.specs.Draws.{generator_of, drawn, made_word, made_image}
 use Rattle.plural_made.proofs.LineNumbers as renumbered
 use Rattle.plural_made.proofs.LineNumbers.{lines_from, lines_again, faultless_again, image_reads}
@@ -61,6 +61,6 @@ images_read seed n words e =
     let first = images seed 1 in
     let many : length image ≡ words = image_many seed ∙ sym e in
     let same = lines_again 1 n (image_text image) in
-    let read = image_again image 4102 (omega (arith, image_many seed)) (omega (arith, image_many seed)) (image_fits seed) in
+    let read = image_round_trip image 4102 (omega (arith, image_many seed)) (omega (arith, image_many seed)) (image_fits seed) in
     let here = subst (λ w. IsFaultless (Breaks w) first × (image_of w first ≡ image)) many read in
     (faultless_again (Breaks words) first (images seed n) (image_reads words) same here.0, sym (renumbered.image_again words first (images seed n) same) ∙ here.1)

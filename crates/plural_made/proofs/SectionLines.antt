@@ -5,7 +5,7 @@ use Rattle.std.specs.List.{list_all, range_with_len}
 use Rattle.std.proofs.lemmas.Bool.{agree_below_at, and_parts, not-true}
 use Rattle.plural_bytes.specs.Lines.{TextLine}
 use Rattle.plural_image.specs.Print.{hex_digit, row_text, row_lines, image_text}
-use Rattle.plural_image.proofs.Again.{row_first}
+use Rattle.plural_image.proofs.RowRoundTrip.{row_first}
 use Rattle.plural_sections.specs.Sections.{closes}
 use Rattle.plural_bundle.specs.Laws.{Stay}
 use Rattle.plural_made.proofs.LineNumbers.{lines_from}

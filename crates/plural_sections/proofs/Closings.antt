@@ -28,9 +28,11 @@ pub record Begins (body : List TextLine) (n : ℕ) : Type 0 where
   pub count : (before : List TextLine) → NoneCloses before → closings (body ++ before) ≡ n
   pub last : (before : List TextLine) → NoneCloses before → since (body ++ before) ≡ before
 
+-- Before any line no section is closed.
 pub begins_nothing : Begins [] 0
 begins_nothing = record { count = λ before h. closings_none before h; last = λ before h. since_more [] before h }
 
+-- A line that closes a section after others that don't closes one more.
 pub begins_next : (body lines : List TextLine) (n : ℕ) (line : TextLine) → Begins body n → NoneCloses lines → closes line.1 ≡ true → Begins (body ++ (lines ++ line ∷ [])) (n + 1)
 begins_next body lines n line b h e = record { count = count; last = last }
   where

@@ -18,6 +18,7 @@ use Rattle.plural_sections.specs.declared.fault.Fault.TheVariants.{Form}
 
 -- ---- a section
 
+-- The lines before the first that closes a section are the section.
 pub cut_lines : (xs : List Line) (n : ℕ) → n ≡ position_or_len (λ (l : Line). closes l.text.now) xs → text_lines (take n xs) ≡ up_to_header (text_lines xs)
 cut_lines xs n e = sym (take-map text_line n xs) ∙ ap (λ m. take m (text_lines xs)) (e ∙ sym (position_map (λ l. closes l.1) text_line xs))
 
@@ -29,16 +30,19 @@ rest_closed (l ∷ ls) = by (closes l.1) refl (rest_closed ls)
     by true e h = subst IsClosed (sym (from_yes (λ m. closes m.1) l ls e)) e
     by false e h = subst IsClosed (sym (from_no (λ m. closes m.1) l ls e)) h
 
+-- The rest begins with a line that closes a section, if there is one.
 pub cut_closed : (xs : List Line) (n : ℕ) → n ≡ position_or_len (λ (l : Line). closes l.text.now) xs → IsClosed (text_lines (drop n xs))
 cut_closed xs n e =
     let same : text_lines (drop n xs) ≡ drop (position_or_len (λ l. closes l.1) (text_lines xs)) (text_lines xs) = sym (drop-map text_line n xs) ∙ ap (λ m. drop m (text_lines xs)) (e ∙ sym (position_map (λ l. closes l.1) text_line xs)) in
     subst IsClosed (sym same) (rest_closed (text_lines xs))
 
+-- The lines are the section and the rest.
 pub cut_whole : (xs : List Line) (n : ℕ) → text_lines xs ≡ text_lines (take n xs) ++ text_lines (drop n xs)
 cut_whole xs n = ap text_lines (sym (take-append-drop n xs)) ∙ map-append text_line (take n xs) (drop n xs)
 
 -- ---- the section of a header
 
+-- The section of a header is cut from the lines after it.
 pub section_from : (header : List ℕ) (xs : List Line) (n : ℕ) → drop n xs ≡ after_first (λ (l : Line). bytes_eq l.text.now header) xs → up_to_header (text_lines (drop n xs)) ≡ section header (text_lines xs)
 section_from header xs n e =
     ap (λ ys. up_to_header (text_lines ys)) e
@@ -50,6 +54,7 @@ pub empty_apart : (header : List ℕ) → 0 < length header → bytes_eq [] head
 empty_apart [] l = absurd (omega arith)
 empty_apart (c ∷ cs) l = refl
 
+-- A header that is due stands first.
 pub after_header : (xs : List Line) (header : List ℕ) → 0 < length header → bytes_eq (head_of (text_lines xs) 0).1 header ≡ true → IsHeaded header (text_lines xs) (text_lines (take (length xs - 1) (drop 1 xs)))
 after_header [] header l e = absurd (true≢false (sym e ∙ empty_apart header l))
 after_header (x ∷ xs) header l e =
@@ -59,12 +64,14 @@ after_header (x ∷ xs) header l e =
 
 -- ---- a line that has a text
 
+-- No line has a text if none is found.
 pub all_blank : (xs : List Line) → position (λ (l : Line). has_text l.text.now) xs ≡ None → AllBlank (text_lines xs)
 all_blank xs e =
     let n : position_or_len (λ l. has_text l.1) (text_lines xs) ≡ length (text_lines xs) = position_map (λ l. has_text l.1) text_line xs ∙ none_found (λ (l : Line). has_text l.text.now) xs e ∙ sym (length-map xs text_line) in
     let all : before_first (λ l. has_text l.1) (text_lines xs) ≡ text_lines xs = take_all (position_or_len (λ l. has_text l.1) (text_lines xs)) (text_lines xs) (omega (arith, n)) in
     subst AllBlank all (none_before (λ l. has_text l.1) (text_lines xs))
 
+-- The line that is found is the first with a text.
 pub left_over : (xs : List Line) (n : ℕ) (d : Line) → position (λ (l : Line). has_text l.text.now) xs ≡ Some n → IsLeftOver (text_lines xs) (At (get_or xs n d).number Form)
 left_over xs n d e =
     let f = found (λ (l : Line). has_text l.text.now) xs n e in

@@ -4,7 +4,7 @@ use Rattle.plural_bytes.specs.Lines.{TextLine}
 use Rattle.plural_sections.specs.Faults.{IsFaultless, IsFirstFault}
 
 -- an element of two lists in a row stands in the first, or in the second
-pub split_append : {A : Type 0} (xs ys bs : List A) (x : A) (zs : List A) → xs ++ ys ≡ bs ++ x ∷ zs → ((cs : List A) × (xs ≡ bs ++ x ∷ cs)) ⊎ ((cs : List A) × (bs ≡ xs ++ cs) × (ys ≡ cs ++ x ∷ zs))
+split_append : {A : Type 0} (xs ys bs : List A) (x : A) (zs : List A) → xs ++ ys ≡ bs ++ x ∷ zs → ((cs : List A) × (xs ≡ bs ++ x ∷ cs)) ⊎ ((cs : List A) × (bs ≡ xs ++ cs) × (ys ≡ cs ++ x ∷ zs))
 split_append [] ys bs x zs e = inr (bs, refl, e)
 split_append (a ∷ xs) ys [] x zs e = let f : a ≡ x = cc in inl (xs, rw f refl)
 split_append (a ∷ xs) ys (b ∷ bs) x zs e =
@@ -15,11 +15,12 @@ split_append (a ∷ xs) ys (b ∷ bs) x zs e =
       | inr p ↦ inr (p.0, rw (f, p.1) refl, p.2)
     ]
 
--- behind these lines the whole's rule is the section's, whose kinds are named by `of`
+-- After these lines the whole's rule is the section's, whose kinds are named by `of`
 pub record Delegates {K S : Type 0} (Whole : List TextLine → List ℕ → K → Type 0) (Part : List TextLine → List ℕ → S → Type 0) (of : S → K) (front section : List TextLine) : Type 0 where
   pub down : (before : List TextLine) (line : TextLine) (after : List TextLine) → section ≡ before ++ line ∷ after → (kind : K) → Whole (front ++ before) line.1 kind → (k : S) × (kind ≡ of k) × Part before line.1 k
   pub up : (before : List TextLine) (line : TextLine) (after : List TextLine) → section ≡ before ++ line ∷ after → (k : S) → Part before line.1 k → Whole (front ++ before) line.1 (of k)
 
+-- Lines without a fault, and those of a section without one, have none in the whole.
 pub faultless_section : {K S : Type 0} (Whole : List TextLine → List ℕ → K → Type 0) (Part : List TextLine → List ℕ → S → Type 0) (of : S → K) (front section : List TextLine)
     → Delegates Whole Part of front section → IsFaultless Whole front → IsFaultless Part section → IsFaultless Whole (front ++ section)
 faultless_section Whole Part of front section d f s = record {
@@ -32,13 +33,14 @@ faultless_section Whole Part of front section d f s = record {
 }
 
 -- a prefix of a section is a section
-pub Delegates-front : {K S : Type 0} (Whole : List TextLine → List ℕ → K → Type 0) (Part : List TextLine → List ℕ → S → Type 0) (of : S → K) (front before after : List TextLine)
+Delegates-front : {K S : Type 0} (Whole : List TextLine → List ℕ → K → Type 0) (Part : List TextLine → List ℕ → S → Type 0) (of : S → K) (front before after : List TextLine)
     → Delegates Whole Part of front (before ++ after) → Delegates Whole Part of front before
 Delegates-front Whole Part of front before after d = record {
   down = λ b line a e. d.down b line (a ++ after) (ap (λ x. x ++ after) e ∙ append_assoc b (line ∷ a) after);
   up = λ b line a e. d.up b line (a ++ after) (ap (λ x. x ++ after) e ∙ append_assoc b (line ∷ a) after);
 }
 
+-- The first fault of a section is that of the whole.
 pub first_in_section : {K S : Type 0} (rank : K → ℕ) (Whole : List TextLine → List ℕ → K → Type 0) (rank_s : S → ℕ) (Part : List TextLine → List ℕ → S → Type 0) (of : S → K) (front section back : List TextLine) (number : ℕ) (k : S)
     → ((s : S) → rank (of s) ≡ rank_s s) → Delegates Whole Part of front section → IsFaultless Whole front → IsFirstFault rank_s Part section number k
     → IsFirstFault rank Whole (front ++ (section ++ back)) number (of k)

@@ -23,9 +23,11 @@ split_last (a ∷ cs) (b ∷ bs) x y zs e =
       | inr p ↦ inr (p.0, rw (f, p.1) refl)
     ]
 
+-- No lines have no fault.
 pub faultless_nil : {K : Type 0} (B : List TextLine → List ℕ → K → Type 0) → IsFaultless B []
 faultless_nil B = record { none = λ n k h. not_nil h.before (n, h.text) h.after h.whole }
 
+-- One more line without a fault.
 pub faultless_push : {K : Type 0} (B : List TextLine → List ℕ → K → Type 0) (before : List TextLine) (line : TextLine) → IsFaultless B before → ((k : K) → B before line.1 k → ⊥) → IsFaultless B (before ++ line ∷ [])
 faultless_push B before line f here = record {
   none = λ n k h. elim (split_last before h.before line (n, h.text) h.after h.whole) [
@@ -77,11 +79,13 @@ round v xs i d l =
     let s = drop_more xs i d l in
     ap (map v) (sym (take-append-drop i xs)) ∙ map-append v (take i xs) (drop i xs) ∙ ap (λ ys. map v (take i xs) ++ map v ys) s
 
+-- A line with a fault after lines without one is the first with a fault.
 pub first_fault : {K X : Type 0} (rank : K → ℕ) (B : List TextLine → List ℕ → K → Type 0) (v : X → TextLine) (xs : List X) (i : ℕ) (d : X) (kind : K) → i < length xs
     → IsFaultless B (map v (take i xs)) → B (map v (take i xs)) (v (get_or xs i d)).1 kind → ((k : K) → B (map v (take i xs)) (v (get_or xs i d)).1 k → rank kind ≤ rank k)
     → IsFirstFault rank B (map v xs) (v (get_or xs i d)).0 kind
 first_fault rank B v xs i d kind l f b least = record { before = map v (take i xs); text = (v (get_or xs i d)).1; after = map v (drop (i + 1) xs); whole = round v xs i d l; earlier = f; breaks = b; least = least }
 
+-- The i-th line has no fault, and those before it have none.
 pub faultless_more : {K X : Type 0} (B : List TextLine → List ℕ → K → Type 0) (v : X → TextLine) (xs : List X) (i : ℕ) (d : X) → i < length xs
     → IsFaultless B (map v (take i xs)) → ((k : K) → B (map v (take i xs)) (v (get_or xs i d)).1 k → ⊥) → IsFaultless B (map v (take (i + 1) xs))
 faultless_more B v xs i d l f here = rw (map_more v xs i d l) (faultless_push B (map v (take i xs)) (v (get_or xs i d)) f here)

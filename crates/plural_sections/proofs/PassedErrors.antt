@@ -6,7 +6,7 @@ use Rattle.plural_sections.specs.declared.line_error.LineError.TheVariants.{At, 
 use Rattle.plural_sections.specs.Errors.{renamed, IsRenamed}
 
 -- An error whose kind has the name that a function gives it is the error with this name.
-pub renamed_is : {K L : Type 0} (of : K → L) (e : LineError K) (error : LineError L) → IsRenamed (λ k l. l ≡ of k) e error → error ≡ renamed of e
+renamed_is : {K L : Type 0} (of : K → L) (e : LineError K) (error : LineError L) → IsRenamed (λ k l. l ≡ of k) e error → error ≡ renamed of e
 renamed_is of Memory Memory h = refl
 renamed_is of Memory (At number kind) h = absurd h
 renamed_is of (At n k) Memory h = absurd h

@@ -54,6 +54,7 @@ module _ {S V K : Type 0} (rank : K → ℕ) (shape_of : List ℕ → Option S) 
     spelled = n;
   }
 
+  -- The same of the i-th of the code's lines.
   pub reads_more : (xs : List Line) (i : ℕ) (d : Line) (v next : V) (s : S) → i < length xs → Reads shape_of form value Table (text_lines (take i xs)) v
       → Some s ≡ shape_of (get_or xs i d).text.now → HasNone (Table i v s) → next ≡ value (text_lines (take i xs) ++ text_line (get_or xs i d) ∷ []) → Reads shape_of form value Table (text_lines (take (i + 1) xs)) next
   reads_more xs i d v next s l r e none n =
@@ -65,6 +66,7 @@ module _ {S V K : Type 0} (rank : K → ℕ) (shape_of : List ℕ → Option S) 
 
   -- ---- the line that closes a section
 
+  -- The least kind of the line that closes a section without a fault is the section's first fault.
   pub closing_first : (lines : List TextLine) (end : ℕ) (v : V) (s : S) (kind : K) → Reads shape_of form value Table lines v → shape_of [] ≡ Some s → IsLeast rank (Table (length lines) v s) kind → IsFirstFault rank Breaks (closed lines end) end kind
   closing_first lines end v s kind r e f = record {
     before = lines;
@@ -76,6 +78,7 @@ module _ {S V K : Type 0} (rank : K → ℕ) (shape_of : List ℕ → Option S) 
     least = λ k b. f.1 k (rw (e, ← r.spelled) at b);
   }
 
+  -- Without a kind of that line the section has no fault.
   pub closed_faultless : (lines : List TextLine) (end : ℕ) (v : V) (s : S) → Reads shape_of form value Table lines v → shape_of [] ≡ Some s → HasNone (Table (length lines) v s) → IsFaultless Breaks (closed lines end)
   closed_faultless lines end v s r e none = faultless_push Breaks lines (end, []) r.faultless (λ k b. none k (rw (e, ← r.spelled) at b))
 

@@ -1,5 +1,5 @@
 use Rattle.std.proofs.Common.{◌∙◌, ap, take, drop, arith}
-use Rattle.plural_bytes.proofs.Known.{given_is}
+use Rattle.plural_bytes.proofs.KnownBytes.{given_is}
 use Rattle.plural_bytes.proofs.in_memory.give.Goals as goal
 
 pub returns-clause-given : goal.returns-clause-given

@@ -1,4 +1,4 @@
-use Rattle.plural_bytes.proofs.Numbered.{lines_rise}
+use Rattle.plural_bytes.proofs.LineNumbers.{lines_rise}
 use Rattle.plural_bytes.proofs.laws.lines_rise.Goals as goal
 
 pub returns : goal.returns

@@ -1,4 +1,4 @@
-use Rattle.plural_bytes.proofs.Plain.{tokens_are_plain}
+use Rattle.plural_bytes.proofs.PlainBytes.{tokens_are_plain}
 use Rattle.plural_bytes.proofs.laws.tokens_are_plain.Goals as goal
 
 pub returns : goal.returns

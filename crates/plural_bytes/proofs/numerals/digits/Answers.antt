@@ -1,4 +1,4 @@
-use Rattle.plural_bytes.proofs.Valued.{value_more, digits_more}
+use Rattle.plural_bytes.proofs.DigitValues.{value_more, digits_more}
 use Rattle.plural_bytes.proofs.numerals.digits.Goals as goal
 
 pub loop-c-preserved : goal.loop-c-preserved

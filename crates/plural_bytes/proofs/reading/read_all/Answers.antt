@@ -1,5 +1,5 @@
 use Rattle.std.proofs.Common.{◌++◌, take, refl, arith}
-use Rattle.plural_bytes.proofs.Known.{consumes_more, taken_length}
+use Rattle.plural_bytes.proofs.KnownBytes.{consumes_more, taken_length}
 use Rattle.plural_bytes.proofs.reading.read_all.Goals as goal
 
 pub returns-then-n-limit-clause-too_long : goal.returns-then-n-limit-clause-too_long

@@ -1,4 +1,4 @@
-use Rattle.std.proofs.Common.{◌≤◌, ◌+◌, ◌-◌, vec_len}
+use Rattle.std.proofs.Common.{◌≡◌, ◌≤◌, ◌+◌, ◌-◌, vec_len}
 use Rattle.std.specs.Io.KnownBytes.{Consumes}
 use Rattle.plural_bytes.proofs.reading.read_all.Given as goal
 
@@ -9,7 +9,7 @@ invariant-loop-bytes g l =
     record {
       short : vec_len l.bytes ≤ l.limit;
       taken : Consumes (S.left l.fn.source) (S.left l.source) l.bytes.items;
-      later : S.faults l.fn.source ≤ S.faults l.source;
+      unfailed : S.faults l.source ≡ S.faults l.fn.source;
     }
 
 abbrev pub decreases-loop-bytes : goal.decreases-loop-bytes

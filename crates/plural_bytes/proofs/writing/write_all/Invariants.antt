@@ -1,14 +1,15 @@
-use Rattle.std.proofs.Common.{ℕ, ◌≡◌, ◌≤◌, List, ◌++◌, length}
+use Rattle.std.proofs.Common.{ℕ, ◌≡◌, List, ◌++◌, length}
 use Rattle.std.specs.Io.KnownBytes.{Appends}
 use Rattle.plural_bytes.proofs.writing.write_all.Given as goal
 
--- a front of the text is written, and the rest of it is left
+-- A prefix of the text is written, and the rest of it is left.
 abbrev pub invariant-loop-rest : goal.invariant-loop-rest
 invariant-loop-rest g l =
     let K = g.K.Sink in
     record {
       part : (front : List ℕ) × (l.text ≡ front ++ l.rest) × Appends (K.holds l.fn.sink) (K.holds l.sink) front;
-      later : K.faults l.fn.sink ≤ K.faults l.sink;
+      unfailed : K.faults l.sink ≡ K.faults l.fn.sink;
+      nothing : length l.text ≡ 0 → l.sink ≡ l.fn.sink;
     }
 
 abbrev pub decreases-loop-rest : goal.decreases-loop-rest

@@ -1,4 +1,4 @@
-use Rattle.plural_image.proofs.Printable.{lines_are_plain}
+use Rattle.plural_image.proofs.PlainLines.{lines_are_plain}
 use Rattle.plural_image.proofs.laws.lines_are_plain.Goals as goal
 
 pub returns : goal.returns

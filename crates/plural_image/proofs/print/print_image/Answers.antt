@@ -1,6 +1,6 @@
 use Rattle.std.proofs.Common.{◌≡◌, ◌+◌, ◌-◌, ◌*◌, take, drop, arith}
 use Rattle.plural_image.specs.Print.{row_lines}
-use Rattle.plural_image.proofs.Printed.{rows_more}
+use Rattle.plural_image.proofs.PrintedRows.{rows_more}
 use Rattle.plural_image.proofs.print.print_image.Goals as goal
 
 pub loop-r-preserved : goal.loop-r-preserved

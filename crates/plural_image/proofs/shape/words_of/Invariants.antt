@@ -1,7 +1,7 @@
 use Rattle.std.proofs.Common.{◌≡◌, ◌+◌, ◌≤◌, length}
 use Rattle.plural_bytes.specs.Lines.{tokens}
 use Rattle.plural_image.specs.Shape.{all_words}
-use Rattle.plural_image.proofs.Shapes.{onto}
+use Rattle.plural_image.proofs.LineShapes.{onto}
 use Rattle.plural_image.proofs.shape.words_of.Given as goal
 
 abbrev pub invariant-loop-token : goal.invariant-loop-token

@@ -1,4 +1,4 @@
-use Rattle.plural_bytes.proofs.Known.{appends_kept, front_by_count}
+use Rattle.plural_bytes.proofs.KnownBytes.{appends_kept, front_by_count}
 use Rattle.plural_bytes.proofs.adapters.StdSinkSink.write.Goals as goal
 
 pub returns-then-is_err-clause-bytes : goal.returns-then-is_err-clause-bytes

@@ -7,7 +7,7 @@ use Rattle.std.proofs.lemmas.Bool.{and_parts, and_right, and_from, eq-eqb, le-le
 use Rattle.std.proofs.lemmas.List.{append-nil}
 use Rattle.plural_bytes.specs.declared.numerals.NumberError.{NumberError}
 use Rattle.plural_bytes.specs.Numerals.{spelled, value_of, are_digits, within}
-use Rattle.plural_bytes.proofs.Valued.{value_below}
+use Rattle.plural_bytes.proofs.DigitValues.{value_below}
 use Rattle.plural_sections.specs.Numbers.{word_token}
 use Rattle.plural_image.specs.Shape.{all_words, one_to_eight}
 

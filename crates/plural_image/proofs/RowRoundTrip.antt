@@ -9,22 +9,23 @@ use Rattle.plural_bytes.specs.Lines.{is_blank, tokens, pieces, content, content_
 use Rattle.plural_bytes.specs.Numerals.{are_digits}
 use Rattle.plural_bytes.specs.Hexadecimal.{hex_text}
 use Rattle.plural_bytes.proofs.Hexadecimals.{hex_digits, hex_back}
-use Rattle.plural_bytes.proofs.Lined as lined
+use Rattle.plural_bytes.proofs.PrintedLines as lined
 use Rattle.plural_bytes.proofs.Tokens.{is_token, joined, hex_plain, hex_token, tokens_joined, line_next}
 use Rattle.plural_sections.specs.Numbers.{word_token}
 use Rattle.plural_image.specs.Shape.{all_words, one_to_eight, line_of, image_line}
 use Rattle.plural_image.specs.Print.{row_text}
-pub use Rattle.plural_bytes.proofs.Lined.{is_plain, is_inner, EndsPlain, pieces_cons}
+pub use Rattle.plural_bytes.proofs.PrintedLines.{is_token_byte, is_inner, EndsInToken, pieces_cons}
 pub use Rattle.plural_bytes.proofs.Tokens.{split_cons, split_end}
 
 -- ---- words
 
+-- The text of a word is read as the word.
 pub word_back : (n : ℕ) → n < 4294967296 → word_token (hex_text 8 n) ≡ Some n
 word_back n l =
     let are : are_digits 16 (hex_text 8 n) ≡ true = hex_digits 8 n in
     rw (are, hex_back 8 n l) refl
 
-pub words_back : (ws : List ℕ) → AllByRecursion (λ w. w < 4294967296) ws → all_words (map (hex_text 8) ws) ≡ Some ws
+words_back : (ws : List ℕ) → AllByRecursion (λ w. w < 4294967296) ws → all_words (map (hex_text 8) ws) ≡ Some ws
 words_back [] h = refl
 words_back (w ∷ ws) h =
     ap (option_and_then (λ v. option_map (λ vs. v ∷ vs) (all_words (map (hex_text 8) ws)))) (word_back w h.0) ∙ ap (option_map (λ vs. w ∷ vs)) (words_back ws h.1)
@@ -44,12 +45,13 @@ words_all (w ∷ ws) = and_from _ _ (hex_token w) (words_all ws)
 
 row_all : (a : ℕ) (ws : List ℕ) → list_all is_token ((hex_text 8 a ++ 58 ∷ []) ∷ map (hex_text 8) ws) ≡ true
 row_all a ws =
-    let plain : list_all is_plain (hex_text 8 a ++ 58 ∷ []) ≡ true = list_all-append is_plain (hex_text 8 a) (58 ∷ []) ∙ and_from _ _ (hex_plain 8 a) refl in
+    let plain : list_all is_token_byte (hex_text 8 a ++ 58 ∷ []) ≡ true = list_all-append is_token_byte (hex_text 8 a) (58 ∷ []) ∙ and_from _ _ (hex_plain 8 a) refl in
     and_from _ _ (and_from _ _ refl plain) (words_all ws)
 
 row_tokens : (a : ℕ) (ws : List ℕ) → tokens (row_text a ws) ≡ (hex_text 8 a ++ 58 ∷ []) ∷ map (hex_text 8) ws
 row_tokens a ws = ap tokens (row_joined a ws) ∙ tokens_joined (hex_text 8 a ++ 58 ∷ []) (map (hex_text 8) ws) (row_all a ws)
 
+-- The text of a row is read as its address and words.
 pub row_back : (a : ℕ) (ws : List ℕ) → a < 4294967296 → length ws ≡ 8 → AllByRecursion (λ w. w < 4294967296) ws → image_line (row_text a ws) ≡ Some (a, ws)
 row_back a ws l n h = ap line_of (row_tokens a ws) ∙ ap (option_and_then (λ b. option_map (λ vs. (b, vs)) (one_to_eight (map (hex_text 8) ws)))) (word_back a l) ∙ ap (option_map (λ vs. (a, vs))) few
   where
@@ -64,5 +66,5 @@ row_first n a ws rest =
 
 -- ---- the content of a line that begins with no blank
 
-pub content_is : (d : ℕ) (cs : List ℕ) → list_all is_inner (d ∷ cs) ≡ true → is_blank d ≡ false → EndsPlain (d ∷ cs) → content (d ∷ cs) ≡ d ∷ cs
+pub content_is : (d : ℕ) (cs : List ℕ) → list_all is_inner (d ∷ cs) ≡ true → is_blank d ≡ false → EndsInToken (d ∷ cs) → content (d ∷ cs) ≡ d ∷ cs
 content_is d cs inner full ends = lined.content_is (d ∷ cs) (record { inner = inner; begins = record { first = d; rest = cs; whole = refl; full = full }; ends = ends })

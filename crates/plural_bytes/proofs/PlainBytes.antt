@@ -46,5 +46,6 @@ parts_plain : (text : List ℕ) → list_all (λ t. list_all is_printable t) (sl
 parts_plain [] h = refl
 parts_plain (c ∷ cs) h = plain_step c cs (is_blank c) refl (parts_plain cs) h
 
+-- A line whose tokens are printable has blanks beside them alone.
 pub tokens_are_plain : TokensArePlain
 tokens_are_plain text h = parts_plain text (all_parts (slice_split is_blank text) h)

@@ -10,7 +10,7 @@ use Rattle.plural_sections.specs.Faults.{IsFaultless}
 use Rattle.plural_image.specs.Image.{Breaks, overwritten, image_of}
 use Rattle.plural_image.specs.Print.{row_text, row_lines, image_text}
 use Rattle.plural_image.proofs.ReadImage.{Reads, reads_nothing, reads_push}
-use Rattle.plural_image.proofs.Again.{row_back, row_first}
+use Rattle.plural_image.proofs.RowRoundTrip.{row_back, row_first}
 
 -- ---- lists
 
@@ -105,9 +105,10 @@ rows_read w words len small fit (suc m) n r floor before e f reads =
       | inr z ↦ row_step w words m len small fit (rows_read w words len small fit m) n r floor before e f reads z
     ]
 
-pub image_again : (words : List ℕ) (rows : ℕ) → length words ≡ 8 * rows → length words ≤ 1048576 → AllByRecursion (λ w. w < 4294967296) words
+-- The lines of a printed image are read as that image.
+pub image_round_trip : (words : List ℕ) (rows : ℕ) → length words ≡ 8 * rows → length words ≤ 1048576 → AllByRecursion (λ w. w < 4294967296) words
     → IsFaultless (Breaks (length words)) (content_lines (image_text words)) × (image_of (length words) (content_lines (image_text words)) ≡ words)
-image_again words rows e small fit =
+image_round_trip words rows e small fit =
     let w = length words in
     let start : so_far w words (8 * 0) ≡ replicate w 0 = ap (λ m. replicate {A = ℕ} m 0) (let z : w - 0 ≡ w = omega arith in z) in
     let all = rows_read w words refl small fit rows 1 0 0 [] (omega (arith, e)) (omega arith) (reads_nothing w (so_far w words (8 * 0)) start) in

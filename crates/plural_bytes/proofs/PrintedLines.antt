@@ -11,20 +11,21 @@ use Rattle.plural_base.proofs.ListTests.{list_all_weaker, none_pass, before_none
 -- ---- bytes
 
 -- A byte that stays in a line and in a token.
-abbrev pub is_plain : ℕ → Bool
-is_plain c = not (is_line_end c) && not (is_hash c) && not (is_blank c) && not (c == 13)
+abbrev pub is_token_byte : ℕ → Bool
+is_token_byte c = not (is_line_end c) && not (is_hash c) && not (is_blank c) && not (c == 13)
 
 -- Such a byte, or a blank.
 abbrev pub is_inner : ℕ → Bool
 is_inner c = not (is_line_end c) && not (is_hash c) && not (c == 13)
 
 -- What is known of a plain byte.
-pub record IsPlain (c : ℕ) : Type 0 where
+pub record IsTokenByte (c : ℕ) : Type 0 where
   pub inner : is_inner c ≡ true
   pub full : is_blank c ≡ false
   pub no_cr : eqb c 13 ≡ false
 
-pub plain_parts : (c : ℕ) → is_plain c ≡ true → IsPlain c
+-- A byte of a token is printable, no blank and no `#`.
+pub plain_parts : (c : ℕ) → is_token_byte c ≡ true → IsTokenByte c
 plain_parts c h =
     let p = and_parts (not (is_line_end c) && not (is_hash c) && not (is_blank c)) (not (c == 13)) h in
     let q = and_parts (not (is_line_end c) && not (is_hash c)) (not (is_blank c)) p.0 in
@@ -36,8 +37,9 @@ inner_no_end c h = not-true (is_line_end c) (and_parts (not (is_line_end c)) (no
 inner_no_hash : (c : ℕ) → is_inner c ≡ true → is_hash c ≡ false
 inner_no_hash c h = not-true (is_hash c) (and_parts (not (is_line_end c)) (not (is_hash c)) (and_parts (not (is_line_end c) && not (is_hash c)) (not (c == 13)) h).0).1
 
-pub all_inner : (xs : List ℕ) → list_all is_plain xs ≡ true → list_all is_inner xs ≡ true
-all_inner xs h = list_all_weaker is_plain is_inner (λ c p. (plain_parts c p).inner) xs h
+-- Bytes of tokens may stand inside a line.
+pub all_inner : (xs : List ℕ) → list_all is_token_byte xs ≡ true → list_all is_inner xs ≡ true
+all_inner xs h = list_all_weaker is_token_byte is_inner (λ c p. (plain_parts c p).inner) xs h
 
 -- ---- the first and the last byte
 
@@ -49,23 +51,26 @@ pub record Begins (text : List ℕ) : Type 0 where
   pub full : is_blank first ≡ false
 
 -- The last byte of a text is plain.
-pub record EndsPlain (text : List ℕ) : Type 0 where
+pub record EndsInToken (text : List ℕ) : Type 0 where
   pub init : List ℕ
   pub last : ℕ
   pub whole : text ≡ init ++ last ∷ []
-  pub plain : is_plain last ≡ true
+  pub plain : is_token_byte last ≡ true
 
-pub begins_of : (xs ys : List ℕ) → list_all is_plain xs ≡ true → 0 < length xs → Begins (xs ++ ys)
+-- A text that begins with a token begins with no blank.
+pub begins_of : (xs ys : List ℕ) → list_all is_token_byte xs ≡ true → 0 < length xs → Begins (xs ++ ys)
 begins_of [] ys h l = absurd (omega arith)
-begins_of (x ∷ xs) ys h l = record { first = x; rest = xs ++ ys; whole = refl; full = (plain_parts x (and_parts (is_plain x) (list_all is_plain xs) h).0).full }
+begins_of (x ∷ xs) ys h l = record { first = x; rest = xs ++ ys; whole = refl; full = (plain_parts x (and_parts (is_token_byte x) (list_all is_token_byte xs) h).0).full }
 
-pub ends_behind : (front xs : List ℕ) → EndsPlain xs → EndsPlain (front ++ xs)
+-- A text ends as its last part does.
+pub ends_behind : (front xs : List ℕ) → EndsInToken xs → EndsInToken (front ++ xs)
 ends_behind front xs e = record { init = front ++ e.init; last = e.last; whole = ap (λ t. front ++ t) e.whole ∙ sym (append_assoc front e.init (e.last ∷ [])); plain = e.plain }
 
-pub ends_of : (xs : List ℕ) → list_all is_plain xs ≡ true → 0 < length xs → EndsPlain xs
+-- A token ends with no blank and no CR.
+pub ends_of : (xs : List ℕ) → list_all is_token_byte xs ≡ true → 0 < length xs → EndsInToken xs
 ends_of [] h l = absurd (omega arith)
-ends_of (x ∷ []) h l = record { init = []; last = x; whole = refl; plain = (and_parts (is_plain x) true h).0 }
-ends_of (x ∷ y ∷ ys) h l = ends_behind (x ∷ []) (y ∷ ys) (ends_of (y ∷ ys) (and_parts (is_plain x) (list_all is_plain (y ∷ ys)) h).1 (omega arith))
+ends_of (x ∷ []) h l = record { init = []; last = x; whole = refl; plain = (and_parts (is_token_byte x) true h).0 }
+ends_of (x ∷ y ∷ ys) h l = ends_behind (x ∷ []) (y ∷ ys) (ends_of (y ∷ ys) (and_parts (is_token_byte x) (list_all is_token_byte (y ∷ ys)) h).1 (omega arith))
 
 -- ---- lines
 
@@ -73,18 +78,19 @@ ends_of (x ∷ y ∷ ys) h l = ends_behind (x ∷ []) (y ∷ ys) (ends_of (y ∷
 pub record IsLine (text : List ℕ) : Type 0 where
   pub inner : list_all is_inner text ≡ true
   pub begins : Begins text
-  pub ends : EndsPlain text
+  pub ends : EndsInToken text
 
-pub plain_line : (xs : List ℕ) → list_all is_plain xs ≡ true → 0 < length xs → IsLine xs
+-- A token is a line.
+pub plain_line : (xs : List ℕ) → list_all is_token_byte xs ≡ true → 0 < length xs → IsLine xs
 plain_line [] h l = absurd (omega arith)
 plain_line (x ∷ xs) h l = record {
   inner = all_inner (x ∷ xs) h;
-  begins = record { first = x; rest = xs; whole = refl; full = (plain_parts x (and_parts (is_plain x) (list_all is_plain xs) h).0).full };
+  begins = record { first = x; rest = xs; whole = refl; full = (plain_parts x (and_parts (is_token_byte x) (list_all is_token_byte xs) h).0).full };
   ends = ends_of (x ∷ xs) h l;
 }
 
--- Plain bytes, and behind a blank more that ends with one.
-pub line_more : (xs ys : List ℕ) → list_all is_plain xs ≡ true → 0 < length xs → list_all is_inner ys ≡ true → EndsPlain ys → IsLine (xs ++ 32 ∷ ys)
+-- Plain bytes, and after a blank more that ends with one.
+pub line_more : (xs ys : List ℕ) → list_all is_token_byte xs ≡ true → 0 < length xs → list_all is_inner ys ≡ true → EndsInToken ys → IsLine (xs ++ 32 ∷ ys)
 line_more xs ys h l inner ends = record {
   inner = list_all-append is_inner xs (32 ∷ ys) ∙ and_from _ _ (all_inner xs h) inner;
   begins = begins_of xs (32 ∷ ys) h l;
@@ -100,28 +106,31 @@ no_cr_at ds e h =
     let t : eqb (get_or (ds ++ e ∷ []) (length (ds ++ e ∷ []) - 1) 0) 13 ≡ false = rw (n, g) h in
     cond-false _ _ _ t
 
-no_cr : (text : List ℕ) → EndsPlain text → without_cr text ≡ text
+no_cr : (text : List ℕ) → EndsInToken text → without_cr text ≡ text
 no_cr text e = ap without_cr e.whole ∙ no_cr_at e.init e.last (plain_parts e.last e.plain).no_cr ∙ sym e.whole
 
 no_comment : (text : List ℕ) → list_all is_inner text ≡ true → before_first is_hash text ≡ text
 no_comment text h = before_none is_hash text (none_pass is_inner is_hash inner_no_hash text h)
 
+-- A text that begins with no blank is itself without its first blanks.
 pub no_front : (text : List ℕ) → Begins text → drop_while is_blank text ≡ text
 no_front text b = ap (drop_while is_blank) b.whole ∙ cond-false _ _ _ b.full ∙ sym b.whole
 
-no_back : (text : List ℕ) → EndsPlain text → drop_while is_blank (reverse text) ≡ reverse text
+no_back : (text : List ℕ) → EndsInToken text → drop_while is_blank (reverse text) ≡ reverse text
 no_back text e =
     let back : reverse text ≡ e.last ∷ reverse e.init = ap reverse e.whole ∙ reverse-append e.init (e.last ∷ []) in
     ap (drop_while is_blank) back ∙ cond-false _ _ _ (plain_parts e.last e.plain).full ∙ sym back
 
-no_blanks : (text : List ℕ) → Begins text → EndsPlain text → trimmed text ≡ text
+no_blanks : (text : List ℕ) → Begins text → EndsInToken text → trimmed text ≡ text
 no_blanks text b e = ap (λ t. reverse (drop_while is_blank (reverse t))) (no_front text b) ∙ ap reverse (no_back text e) ∙ reverse-reverse text
 
+-- The content of a printed line is the line.
 pub content_is : (text : List ℕ) → IsLine text → content text ≡ text
 content_is text h = ap (λ t. trimmed (before_first is_hash t)) (no_cr text h.ends) ∙ ap trimmed (no_comment text h.inner) ∙ no_blanks text h.begins h.ends
 
 -- ---- the lines of a text that begins with it
 
+-- A line and its line end are the first piece of a text.
 pub pieces_cons : (text rest : List ℕ) → list_all is_inner text ≡ true → pieces (text ++ 10 ∷ rest) ≡ text ∷ pieces rest
 pieces_cons [] rest h = refl
 pieces_cons (c ∷ cs) rest h =
@@ -131,7 +140,7 @@ pieces_cons (c ∷ cs) rest h =
 has_some : (text : List ℕ) → Begins text → has_text text ≡ true
 has_some text b = ap has_text b.whole ∙ lt-ltb 0 (length (b.first ∷ b.rest)) (omega arith)
 
--- The content lines of the text are this one, and those behind it.
+-- The content lines of the text are this one, and those after it.
 pub line_first : (n : ℕ) (text rest : List ℕ) → IsLine text → content_from n (pieces (text ++ 10 ∷ rest)) ≡ (n, text) ∷ content_from (n + 1) (pieces rest)
 line_first n text rest h =
     let c = content_is text h in

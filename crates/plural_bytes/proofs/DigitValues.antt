@@ -14,6 +14,7 @@ power_more base n m e = ap (λ k. base ^ k) e ∙ pow-suc base n
 joined : (d p e r base : ℕ) → e * (p * base) + (r * base + d) ≡ (e * p + r) * base + d
 joined d p e r base = grind arith
 
+-- One more digit at the end counts one, and the others the base as often.
 pub value_of_push : (base : ℕ) (ds : List ℕ) (d : ℕ) → value_of base (ds ++ d ∷ []) ≡ value_of base ds * base + digit_value d
 value_of_push base [] d = rw (pow-zero base) (omega arith)
 value_of_push base (e ∷ ds) d =
@@ -21,6 +22,7 @@ value_of_push base (e ∷ ds) d =
     let k = power_more base (length ds) (length (ds ++ d ∷ [])) (omega (arith, length_push ds d)) in
     rw (ih, k) (joined (digit_value d) (base ^ length ds) (digit_value e) (value_of base ds) base)
 
+-- The bounded value of one more digit.
 pub value_more : (base limit : ℕ) (text : List ℕ) (i : ℕ) (v w : Option ℕ) (d : ℕ) → i < length text → d ≡ digit_value (get_or text i 0)
     → ((n : ℕ) → v ≡ bounded limit n → w ≡ bounded limit (n * base + d)) → v ≡ bounded limit (value_of base (take i text))
     → w ≡ bounded limit (value_of base (take (i + 1) text))
@@ -29,6 +31,7 @@ value_more base limit text i v w d l e step h =
     let p = value_of_push base (take i text) (get_or text i 0) in
     rw (k, p, ← e) (step _ h)
 
+-- The next byte is a digit below the base.
 pub digits_more : (base : ℕ) (text : List ℕ) (i : ℕ) → i < length text → digit_value (get_or text i 0) < base
     → list_all (λ c. is_digit c base) (take i text) ≡ true → list_all (λ c. is_digit c base) (take (i + 1) text) ≡ true
 digits_more base text i l below h =

@@ -13,11 +13,12 @@ kept_or_not : (n top : ℕ) (text : List ℕ) (ls : List TextLine) (b : Bool) �
 kept_or_not n top text ls true e h r = rw e (omega arith, h, r)
 kept_or_not n top text ls false e h r = rw e (rises_sooner n top _ r)
 
-pub content_rises : (n : ℕ) (ps : List (List ℕ)) → Rises n (length ps + n) (content_from n ps)
+content_rises : (n : ℕ) (ps : List (List ℕ)) → Rises n (length ps + n) (content_from n ps)
 content_rises n [] = tt
 content_rises n (p ∷ ps) =
     let e : length ps + (n + 1) ≡ length (p ∷ ps) + n = omega arith in
     kept_or_not n (length (p ∷ ps) + n) (content p) (map (λ l. (l.0, content l.1)) (enumerate_from (n + 1) ps)) (has_text (content p)) refl (omega arith) (rw e at (content_rises (n + 1) ps))
 
+-- The numbers of content lines rise.
 pub lines_rise : LinesRise
 lines_rise text = content_rises 1 (pieces text)

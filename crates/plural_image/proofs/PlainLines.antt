@@ -10,7 +10,7 @@ use Rattle.plural_bytes.specs.Lines.{tokens}
 use Rattle.plural_bytes.specs.Laws.{is_printable}
 use Rattle.plural_bytes.specs.Numerals.{value_of, are_digits, spelled}
 use Rattle.plural_base.proofs.ListTests.{list_all_weaker}
-use Rattle.plural_bytes.proofs.Plain.{tokens_are_plain}
+use Rattle.plural_bytes.proofs.PlainBytes.{tokens_are_plain}
 use Rattle.plural_sections.specs.Numbers.{word_token}
 use Rattle.plural_image.specs.Shape.{address_token, all_words, one_to_eight, line_of}
 use Rattle.plural_image.specs.Laws.{LinesArePlain}
@@ -73,5 +73,6 @@ line_printable (t ∷ ts) p e =
     let r = chosen (ltb 0 (length ts) && leb (length ts) 8) (all_words ts) q.1.0 q.1.1 in
     and_from _ _ (address_printable t q.0.0 q.0.1) (words_printable ts q.1.0 r.1)
 
+-- An image line has plain bytes alone.
 pub lines_are_plain : LinesArePlain
 lines_are_plain text p e = tokens_are_plain text (line_printable (tokens text) p e)

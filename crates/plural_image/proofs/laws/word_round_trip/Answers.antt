@@ -1,0 +1,5 @@
+use Rattle.plural_image.proofs.RowRoundTrip.{word_back}
+use Rattle.plural_image.proofs.laws.word_round_trip.Goals as goal
+
+pub returns : goal.returns
+returns c = word_back
