@@ -7,11 +7,9 @@ use Rattle.plural_sections.specs.Kinds.{rank}
 use Rattle.plural_bundle.specs.Value.{BundleValue, bundle_of}
 use Rattle.plural_bundle.specs.Answer.{IsBundle}
 use Rattle.plural_crew.specs.Clashes.{IsAccepted}
-use Rattle.plural_reach.specs.declared.tables.Reach.{Reach}
-use Rattle.plural_reach.specs.Tables.{IsReachOf, says_before}
 use Rattle.plural_trace.specs.declared.verdict.Verdict.{Verdict}
 use Rattle.plural_trace.specs.declared.verdict.Verdict.TheVariants as verdict
-use Rattle.plural_trace.specs.Verdicts.{verdict_of}
+use Rattle.plural_trace.specs.Verdicts.{expected_of, IsVerdict}
 use Rattle.plural_output.specs.Parts.{bundle_part, output_part}
 use Rattle.plural_output.specs.Rules.{Breaks}
 use Rattle.plural_output.specs.Value.{OutputValue, output_of}
@@ -38,12 +36,10 @@ abbrev pub verdict_text : ℕ → Verdict → List ℕ
 verdict_text entries verdict.Yes = legal_text entries
 verdict_text entries (verdict.No rule at) = rule_text rule at
 
--- The answer that tells the verdict of the rules on a log and a last memory, by which tasks come before which: there is a
--- table that says it, and the verdict is that of each such table.
+-- The answer that tells the verdict of the rules on a log and a last memory.
 pub record IsJudged (b : BundleValue) (o : OutputValue) (status : ℕ) (text : List ℕ) : Type 0 where
   pub verdict : Verdict
-  pub table : (r : Reach) × IsReachOf r b.program.map.tasks
-  pub exact : (r : Reach) → IsReachOf r b.program.map.tasks → verdict ≡ verdict_of b.program b.image (says_before r) o.log o.image
+  pub exact : IsVerdict (expected_of b.program b.image) o.log o.image verdict
   pub status_is : status ≡ verdict_status verdict
   pub text_is : text ≡ verdict_text (length o.log.entries) verdict
 

@@ -1,7 +1,7 @@
 -- The log of a serial run is legal.
-use Rattle.std.proofs.Common.{◌≡◌, ℕ, zero, suc, ◌+◌, ◌-◌, ◌*◌, ◌<◌, ◌≤◌, Bool, true, false, not, ◌||◌, ◌&&◌, eqb, ltb, List, [], ◌∷◌, length, map, take, get_or, Some, refl, sym, ap, ◌∙◌, arith, eqb-true, inl, inr}
+use Rattle.std.proofs.Common.{◌≡◌, ℕ, zero, suc, ◌+◌, ◌-◌, ◌*◌, ◌<◌, ◌≤◌, Bool, true, false, not, ◌||◌, ◌&&◌, eqb, ltb, List, [], ◌∷◌, length, map, take, get_or, Some, refl, sym, ap, subst, ◌∙◌, arith, eqb-true, inl, inr}
 use Rattle.std.specs.Prelude.{slice_index}
-use Rattle.std.specs.List.{All, list_any}
+use Rattle.std.specs.List.{list_any}
 use Rattle.std.specs.Option.{option_map_or}
 use Rattle.std.proofs.lemmas.Bool.{cases_lt, and_parts, eq-eqb, lt-ltb}
 use Rattle.std.proofs.lemmas.List.{length-map}
@@ -10,22 +10,18 @@ use Rattle.plural_core.specs.declared.end.End.{End}
 use Rattle.plural_core.specs.declared.end.End.TheVariants as end
 use Rattle.plural_map.specs.declared.outcome.Outcome.{Outcome}
 use Rattle.plural_map.specs.declared.outcome.Outcome.TheVariants as outcome
-use Rattle.plural_map.specs.Value.{TaskValue}
-use Rattle.plural_reach.specs.declared.tables.Reach.{Reach}
-use Rattle.plural_reach.specs.Tables.{IsReachOf, says_before}
+use Rattle.plural_map.specs.Value.{TaskValue, MapValue}
 use Rattle.plural_reach.specs.Chains.{Before}
 use Rattle.plural_serial.specs.declared.record_.Record.{Record}
 use Rattle.plural_serial.specs.Answer.{AnswerValue}
 use Rattle.plural_trace.specs.declared.entry.Entry.{Entry}
-use Rattle.plural_trace.specs.declared.verdict.Verdict.TheVariants.{Yes}
-use Rattle.plural_trace.specs.Rules.{no_entry, entry_at, is_of, record_for, is_same_end, is_same_record, is_recorded, has_instance, lacks_instance, breaks_records, is_drawn, breaks_tickets, ends_late, breaks_order, is_busy, overlaps, breaks_cores, breaks_rise, is_same_outcome, breaks_outcomes, breaks_words}
+use Rattle.plural_trace.specs.Rules.{no_entry, entry_at, is_of, record_for, is_same_end, is_same_record, is_recorded, has_instance, lacks_instance, breaks_records, is_drawn, breaks_tickets, BreaksOrder, is_busy, overlaps, breaks_cores, breaks_rise, is_same_outcome, breaks_outcomes, breaks_words}
 use Rattle.plural_trace.specs.SerialLog.{serial_entry, serial_entries, serial_log}
-use Rattle.plural_trace.specs.Verdicts.{judged}
+use Rattle.plural_trace.specs.Verdicts.{Expected, expected_by, Records, Tickets, Order, Cores, Rise, Outcomes, Words, IsLegal}
 use Rattle.plural_trace.specs.Laws.{SerialIsLegal}
-use Rattle.plural_trace.proofs.Places.{none_at_all}
-use Rattle.plural_trace.proofs.Recorded.{record_test, missing_test}
-use Rattle.plural_trace.proofs.Judged.{outcome_test, records_within}
-use Rattle.plural_trace.proofs.Sequenced.{IsLater, InOrder, records_in_order}
+use Rattle.plural_trace.proofs.RecordLookup.{record_test, missing_test}
+use Rattle.plural_trace.proofs.SerialResults.{outcome_test, expected_same}
+use Rattle.plural_trace.proofs.InstanceOrder.{IsLater, InOrder, records_in_order}
 
 no_record : Record
 no_record = no_entry.rec
@@ -129,14 +125,6 @@ tickets_fine rs i l =
     rw (serial_at 0 rs i l, serial_take 0 rs i, serial_long 0 rs)
     (rw (lt-ltb (2 * (0 + i)) (2 * (0 + i) + 1) (omega arith), lt-ltb (2 * (0 + i) + 1) (2 * length rs) (omega arith), drawn_none 0 (take i rs) (2 * (0 + i)) (omega arith), drawn_none 0 (take i rs) (2 * (0 + i) + 1) (omega arith)) refl)
 
-late_none : (before : ℕ → ℕ → Bool) (u start j : ℕ) (rs : List Record) → ((k : ℕ) → k < length rs → before (get_or rs k no_entry.rec).t u ≡ true → 2 * (j + k) + 1 < start) → ends_late before u start (serial_entries j rs) ≡ false
-late_none before u start j [] h = refl
-late_none before u start j (r ∷ rs) h = by (before r.t u) refl (late_none before u start (j + 1) rs (λ k l e. let a = h (suc k) (omega arith) e in omega arith))
-  where
-    by : (b : Bool) → before r.t u ≡ b → ends_late before u start (serial_entries (j + 1) rs) ≡ false → ((b && not (ltb (2 * j + 1) start)) || ends_late before u start (serial_entries (j + 1) rs)) ≡ false
-    by true e k = let a = h 0 (omega arith) e in rw (lt-ltb (2 * j + 1) start (omega arith)) k
-    by false e k = k
-
 free_between : (tasks : List TaskValue) (rs : List Record) (i k : ℕ) (d : Record) → InOrder tasks rs → i ≤ k → k < length rs → Before tasks (get_or rs k d).t (get_or rs i d).t → ⊥
 free_between tasks [] i k d h le l b = omega arith
 free_between tasks (r ∷ rs) zero zero d h le l b = h.0 b
@@ -144,13 +132,13 @@ free_between tasks (r ∷ rs) zero (suc k) d h le l b = (h.1 k d (omega arith)).
 free_between tasks (r ∷ rs) (suc i) zero d h le l b = omega arith
 free_between tasks (r ∷ rs) (suc i) (suc k) d h le l b = free_between tasks rs i k d h.2 (omega arith) (omega arith) b
 
-order_fine : (tasks : List TaskValue) (r : Reach) (rs : List Record) (i : ℕ) → IsReachOf r tasks → InOrder tasks rs → All (λ (r : Record). r.t < length tasks) rs → i < length rs → breaks_order (says_before r) (serial_entries 0 rs) i ≡ false
-order_fine tasks r rs i table h within l =
-    rw (serial_at 0 rs i l)
-    (late_none (says_before r) (get_or rs i no_entry.rec).t (2 * (0 + i)) 0 rs (λ k lk e. elim (cases_lt k i) [
-      | inl lt ↦ omega arith
-      | inr le ↦ absurd (free_between tasks rs i k no_entry.rec h le lk ((table.exact (get_or rs k no_entry.rec).t (get_or rs i no_entry.rec).t (within i no_entry.rec l)).0 e))
-    ]))
+order_fine : (tasks : List TaskValue) (rs : List Record) (i : ℕ) → InOrder tasks rs → i < length rs → BreaksOrder tasks (serial_entries 0 rs) i → ⊥
+order_fine tasks rs i h l b =
+    let late : b.late < length rs = let t = b.there in omega (arith, serial_long 0 rs) in
+    let own = serial_at 0 rs i l in
+    let other = serial_at 0 rs b.late late in
+    let ends = rw (own, other) at b.ends in
+    free_between tasks rs i b.late no_entry.rec h (omega arith) late (rw (own, other) at b.before)
 
 busy_none : (f : Entry) (j : ℕ) (rs : List Record) → 2 * (j + length rs) ≤ f.start → is_busy f (serial_entries j rs) ≡ false
 busy_none f j [] l = refl
@@ -191,26 +179,19 @@ words_fine ws i = ap not (eq-eqb (slice_index ws i) (slice_index ws i) refl)
 
 -- ---- all seven
 
-judged_yes : (tasks : List TaskValue) (r : Reach) (a : AnswerValue) → IsReachOf r tasks → InOrder tasks a.records → All (λ (r : Record). r.t < length tasks) a.records
-    → judged a.records (map (λ o. Some o) a.outcomes) a.image (says_before r) (serial_log a) a.image ≡ Yes
-judged_yes tasks r a table h within =
-    let rs = a.records in
-    let es = serial_entries 0 rs in
-    let n = serial_long 0 rs in
-    let many = length-map a.outcomes (λ o. Some o) in
-    rw (
-      none_at_all (breaks_records rs es) (length es + 1) (λ i l. records_fine tasks rs i h (omega arith)),
-      none_at_all (breaks_tickets es) (length es) (λ i l. tickets_fine rs i (omega arith)),
-      none_at_all (breaks_order (says_before r) es) (length es) (λ i l. order_fine tasks r rs i table h within (omega arith)),
-      none_at_all (breaks_cores 1 es) (length es) (λ i l. cores_fine rs i (omega arith)),
-      none_at_all (breaks_rise es) (length es) (λ i l. rise_fine rs i (omega arith)),
-      none_at_all (breaks_outcomes (map (λ o. Some o) a.outcomes) a.outcomes) (length (map (λ o. Some o) a.outcomes)) (λ i l. outcomes_fine a.outcomes i (omega arith)),
-      none_at_all (breaks_words a.image a.image) (length a.image) (λ i l. words_fine a.image i),
-    ) refl
+breaks_not : {b : Bool} → b ≡ false → b ≡ true → ⊥
+breaks_not f t = let e : true ≡ false = sym t ∙ f in cc
+
+legal_by : (m : MapValue) (a : AnswerValue) → InOrder m.tasks a.records → IsLegal (expected_by m a) (serial_log a) a.image
+legal_by m a h Records i f = breaks_not (records_fine m.tasks a.records i h (let l = f.0 in omega (arith, serial_long 0 a.records))) f.1
+legal_by m a h Tickets i f = breaks_not (tickets_fine a.records i (let l = f.0 in omega (arith, serial_long 0 a.records))) f.1
+legal_by m a h Order i f = order_fine m.tasks a.records i h (let l = f.0 in omega (arith, serial_long 0 a.records)) f.1
+legal_by m a h Cores i f = breaks_not (cores_fine a.records i (let l = f.0 in omega (arith, serial_long 0 a.records))) f.1
+legal_by m a h Rise i f = breaks_not (rise_fine a.records i (let l = f.0 in omega (arith, serial_long 0 a.records))) f.1
+legal_by m a h Outcomes i f = breaks_not (outcomes_fine a.outcomes i (let l = f.0 in omega (arith, length-map a.outcomes (λ o. Some o)))) f.1
+legal_by m a h Words i f = breaks_not (words_fine a.image i) f.1
 
 -- The log of a serial run is legal, with its last memory.
 pub serial_is_legal : SerialIsLegal
-serial_is_legal p m a r limits run table =
-    let order : InOrder p.map.tasks a.records = rw run.records (records_in_order p m limits) in
-    let within : All (λ (r : Record). r.t < length p.map.tasks) a.records = rw run.records (records_within p m limits) in
-    sym (λ i. judged (run.records i) (run.outcomes i) (run.image i) (says_before r) (serial_log a) a.image) ∙ judged_yes p.map.tasks r a table order within
+serial_is_legal p m a limits run =
+    subst (λ (x : Expected). IsLegal x (serial_log a) a.image) (expected_same p m a run) (legal_by p.map a (rw run.records (records_in_order p m limits)))

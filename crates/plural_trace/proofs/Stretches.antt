@@ -18,13 +18,13 @@ use Rattle.plural_trace.specs.Rules.{no_entry}
 use Rattle.plural_trace.specs.Instances.{StandByInstance}
 use Rattle.plural_trace.specs.Verdicts.{records_of}
 use Rattle.plural_reach.proofs.Places.{places_differ}
-use Rattle.plural_trace.proofs.Sequenced.{IsPlaced, IsRun, task_run}
+use Rattle.plural_trace.proofs.InstanceOrder.{IsPlaced, IsRun, task_run}
 
 -- What stands past the last instance.
 pub no_start : Started
 no_start = record { t = 0; k = 0; start = [] }
 
--- Instances that stand by their numbers behind the places at which their tasks begin.
+-- Instances that stand by their numbers after the places at which their tasks begin.
 pub record AreStanding (ss : List Started) : Type 0 where
   pub begin : ℕ → ℕ
   pub each : (i : ℕ) → i < length ss → i ≡ begin (get_or ss i no_start).t + (get_or ss i no_start).k
@@ -66,7 +66,7 @@ instances_at p t (suc n) m i l = elim (cases_lt i n) [
 
 -- ---- one task more
 
--- Behind instances of other tasks those of one task stand by their numbers.
+-- After instances of other tasks those of one task stand by their numbers.
 more_standing : (p : ProgramValue) (t n : ℕ) (m : List ℕ) (ss : List Started) → All (λ s. s.t ≡ t → ⊥) ss → AreStanding ss → AreStanding (ss ++ (instances p t n m).ran)
 more_standing p t n m ss others h = record {
   begin = begin;

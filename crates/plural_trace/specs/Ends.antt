@@ -1,5 +1,5 @@
 -- The latest end of a task's entries, plus one; 0 where it has none.
-use Rattle.std.specs.Prelude.{ℕ, zero, suc, ◌+◌, max, ◌==◌, Bool, if◌then◌else◌, List, [], ◌∷◌, slice_index}
+use Rattle.std.specs.Prelude.{ℕ, ◌≡◌, ◌<◌, zero, suc, ◌+◌, max, ◌==◌, Bool, if◌then◌else◌, List, [], ◌∷◌, length, slice_index}
 use Rattle.plural_trace.specs.declared.entry.Entry.{Entry}
 
 -- The latest end, plus one, of the entries of task t; 0 where there is none.
@@ -11,3 +11,8 @@ latest_end t (e ∷ es) = max (if e.rec.t == t then e.end_at + 1 else 0) (latest
 abbrev pub latest_before : (ℕ → ℕ → Bool) → (u : ℕ) → List ℕ → (n : ℕ) → ℕ
 latest_before before u ends zero = 0
 latest_before before u ends (suc n) = max (latest_before before u ends n) (if before n u then slice_index ends n else 0)
+
+-- For each task, the greatest of the ends of the tasks that come before it.
+abbrev pub AreLatestBefore : (ℕ → ℕ → Bool) → (ends bounds : List ℕ) → Type 0
+AreLatestBefore before ends bounds = (u : ℕ) → u < length ends
+    → slice_index bounds u ≡ latest_before before u ends (length ends)

@@ -7,9 +7,10 @@ use Rattle.plural_trace.specs.Rules.{no_entry}
 abbrev pub record_at : List Record → ℕ → Record
 record_at records i = slice_index_or records i no_entry.rec
 
--- Each record stands as many places behind the one at which its task begins as its instance's number says.
+-- Each record stands as many places after the one at which its task begins as its instance's number says.
 abbrev pub StandFrom : (begin : ℕ → ℕ) → List Record → Type 0
-StandFrom begin records = (i : ℕ) → i < length records → i ≡ begin (record_at records i).t + (record_at records i).k
+StandFrom begin records = (i : ℕ) → i < length records
+    → i ≡ begin (record_at records i).t + (record_at records i).k
 
 -- The records of each task stand one after the other, by the numbers of their instances from 0.
 abbrev pub StandByInstance : List Record → Type 0

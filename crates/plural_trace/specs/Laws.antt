@@ -2,21 +2,19 @@
 use Rattle.std.specs.Prelude.{◌≡◌, ℕ, ◌<◌, ◌≤◌, List, length}
 use Rattle.std.specs.List.{All}
 use Rattle.plural_map.specs.Limits.{IsMap}
-use Rattle.plural_reach.specs.declared.tables.Reach.{Reach}
-use Rattle.plural_reach.specs.Tables.{IsReachOf, says_before}
 use Rattle.plural_serial.specs.declared.record_.Record.{Record}
 use Rattle.plural_serial.specs.Program.{ProgramValue}
 use Rattle.plural_serial.specs.Answer.{AnswerValue, IsSerial}
-use Rattle.plural_trace.specs.declared.verdict.Verdict.TheVariants.{Yes}
 use Rattle.plural_trace.specs.SerialLog.{serial_log}
-use Rattle.plural_trace.specs.Verdicts.{verdict_of}
+use Rattle.plural_trace.specs.Verdicts.{expected_of, IsLegal}
 
 -- A serial run over a map has at most 65,536 records, each of a task of the map, and one outcome for each task.
 abbrev pub SerialFits : Type 0
 SerialFits = (p : ProgramValue) (m : List ℕ) (a : AnswerValue) → IsMap p.map → IsSerial p m a
-    → (length a.records ≤ 65536) × (length a.outcomes ≡ length p.map.tasks) × All (λ (r : Record). r.t < length p.map.tasks) a.records
+    → (length a.records ≤ 65536) × (length a.outcomes ≡ length p.map.tasks)
+    × All (λ (r : Record). r.t < length p.map.tasks) a.records
 
 -- The log of a serial run of a program over a map is legal, with its last memory.
 abbrev pub SerialIsLegal : Type 0
-SerialIsLegal = (p : ProgramValue) (m : List ℕ) (a : AnswerValue) (r : Reach) → IsMap p.map → IsSerial p m a → IsReachOf r p.map.tasks
-    → verdict_of p m (says_before r) (serial_log a) a.image ≡ Yes
+SerialIsLegal = (p : ProgramValue) (m : List ℕ) (a : AnswerValue) → IsMap p.map → IsSerial p m a
+    → IsLegal (expected_of p m) (serial_log a) a.image

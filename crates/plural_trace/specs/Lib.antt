@@ -11,6 +11,7 @@ pub mod Rules
 pub mod Verdicts
 pub mod Ends
 pub mod Busy
+pub mod Marks
 pub mod Instances
 pub mod SerialLog
 pub mod Laws

@@ -1,11 +1,13 @@
--- The seven rules of a legal log, each as a test of the places at which it fails.
-use Rattle.std.specs.Prelude.{ℕ, ◌-◌, ◌*◌, Bool, true, false, not, ◌&&◌, ◌||◌, ◌==◌, nat_lt, List, [], ◌∷◌, length, take, slice_index, slice_index_or, slice_get, Option, Some, None, if◌then◌else◌}
+-- The seven rules of a legal log, each by the places at which it fails.
+use Rattle.std.specs.Prelude.{ℕ, ◌<◌, ◌≤◌, ◌-◌, ◌*◌, Bool, true, false, not, ◌&&◌, ◌||◌, ◌==◌, nat_lt, List, [], ◌∷◌, length, take, slice_index, slice_index_or, slice_get, Option, Some, None, if◌then◌else◌}
 use Rattle.std.specs.List.{list_any}
 use Rattle.std.specs.Option.{option_map_or}
 use Rattle.plural_core.specs.declared.end.End.{End}
 use Rattle.plural_core.specs.declared.end.End.TheVariants as end
 use Rattle.plural_map.specs.declared.outcome.Outcome.{Outcome}
 use Rattle.plural_map.specs.declared.outcome.Outcome.TheVariants as outcome
+use Rattle.plural_map.specs.Value.{TaskValue}
+use Rattle.plural_reach.specs.Chains.{Before}
 use Rattle.plural_serial.specs.declared.record_.Record.{Record}
 use Rattle.plural_trace.specs.declared.entry.Entry.{Entry}
 
@@ -42,7 +44,8 @@ is_same_end e f = false
 -- The two records are the same.
 abbrev pub is_same_record : Record → Record → Bool
 is_same_record r s =
-    r.t == s.t && r.k == s.k && is_same_end r.«end» s.«end» && r.instructions == s.instructions && r.loads == s.loads && r.misses == s.misses && r.stores == s.stores
+    r.t == s.t && r.k == s.k && is_same_end r.«end» s.«end»
+    && r.instructions == s.instructions && r.loads == s.loads && r.misses == s.misses && r.stores == s.stores
 
 -- The record is the one that these hold of its instance.
 abbrev pub is_recorded : List Record → Record → Bool
@@ -62,7 +65,9 @@ lacks_instance records es = list_any (λ r. not (has_instance r.t r.k es)) recor
 abbrev pub breaks_records : List Record → List Entry → (i : ℕ) → Bool
 breaks_records records es i =
     let r = (entry_at es i).rec in
-    if nat_lt i (length es) then not (is_recorded records r) || has_instance r.t r.k (take i es) else lacks_instance records es
+    if nat_lt i (length es)
+    then not (is_recorded records r) || has_instance r.t r.k (take i es)
+    else lacks_instance records es
 
 -- The number is a ticket of one of the entries.
 abbrev pub is_drawn : ℕ → List Entry → Bool
@@ -74,17 +79,16 @@ is_drawn x (e ∷ es) = (e.start == x) || (e.end_at == x) || is_drawn x es
 abbrev pub breaks_tickets : List Entry → (i : ℕ) → Bool
 breaks_tickets es i =
     let e = entry_at es i in
-    not (nat_lt e.start e.end_at) || not (nat_lt e.end_at (2 * length es)) || is_drawn e.start (take i es) || is_drawn e.end_at (take i es)
+    not (nat_lt e.start e.end_at) || not (nat_lt e.end_at (2 * length es))
+    || is_drawn e.start (take i es) || is_drawn e.end_at (take i es)
 
--- One of the entries is of a task before task u, and its end isn't below this start.
-abbrev pub ends_late : (ℕ → ℕ → Bool) → (u start : ℕ) → List Entry → Bool
-ends_late before u start [] = false
-ends_late before u start (e ∷ es) = (before e.rec.t u && not (nat_lt e.end_at start)) || ends_late before u start es
-
--- 3: some entry of a task before that of entry i has an end that isn't below the start of entry i. The test `before`
--- says which tasks come before which.
-abbrev pub breaks_order : (ℕ → ℕ → Bool) → List Entry → (i : ℕ) → Bool
-breaks_order before es i = ends_late before (entry_at es i).rec.t (entry_at es i).start es
+-- 3: some entry is of a task that comes before that of entry i by dependencies, and its end isn't below the start of
+-- entry i.
+pub record BreaksOrder (tasks : List TaskValue) (es : List Entry) (i : ℕ) : Type 0 where
+  pub late : ℕ
+  pub there : late < length es
+  pub before : Before tasks (entry_at es late).rec.t (entry_at es i).rec.t
+  pub ends : (entry_at es i).start ≤ (entry_at es late).end_at
 
 -- The two intervals overlap: neither's end is below the other's start.
 abbrev pub overlaps : Entry → Entry → Bool

@@ -1,43 +1,90 @@
 -- The verdict on a log.
-use Rattle.std.specs.Prelude.{ℕ, ◌+◌, Bool, List, length, map, Option, Some, None}
+use Rattle.std.specs.Prelude.{ℕ, ◌≡◌, ◌+◌, ◌<◌, ◌≤◌, true, List, length, map, Option, Some}
 use Rattle.plural_map.specs.declared.outcome.Outcome.{Outcome}
+use Rattle.plural_map.specs.Value.{TaskValue, MapValue}
 use Rattle.plural_serial.specs.declared.record_.Record.{Record}
 use Rattle.plural_serial.specs.Program.{ProgramValue}
 use Rattle.plural_serial.specs.Serial.{serial_of}
-use Rattle.plural_serial.specs.Answer.{record_of}
-use Rattle.plural_trace.specs.declared.entry.Entry.{Entry}
+use Rattle.plural_serial.specs.Answer.{AnswerValue, record_of}
 use Rattle.plural_trace.specs.declared.verdict.Verdict.{Verdict}
 use Rattle.plural_trace.specs.declared.verdict.Verdict.TheVariants.{Yes, No}
 use Rattle.plural_trace.specs.Logs.{LogValue}
-use Rattle.plural_trace.specs.Least.{least}
-use Rattle.plural_trace.specs.Rules.{breaks_records, breaks_tickets, breaks_order, breaks_cores, breaks_rise, breaks_outcomes, breaks_words}
+use Rattle.plural_trace.specs.Rules.{breaks_records, breaks_tickets, BreaksOrder, breaks_cores, breaks_rise, breaks_outcomes, breaks_words}
 
--- Where a rule has a place, it and the place; else the verdict of the rules after it.
-abbrev pub or_verdict : (rule : ℕ) → Option ℕ → Verdict → Verdict
-or_verdict rule (Some i) v = No rule i
-or_verdict rule None v = v
-
--- The verdict of the rules on entries alone, and then this one.
-abbrev pub entries_verdict : (ℕ → ℕ → Bool) → (cores : ℕ) → List Entry → Verdict → Verdict
-entries_verdict before cores es v =
-    or_verdict 2 (least (breaks_tickets es) (length es))
-    (or_verdict 3 (least (breaks_order before es) (length es))
-    (or_verdict 4 (least (breaks_cores cores es) (length es))
-    (or_verdict 5 (least (breaks_rise es) (length es)) v)))
-
--- The verdict on a log, where these are the serial run's records, outcomes and last memory: the first of the seven
--- rules that fails and its least place, or that none fails.
-abbrev pub judged : List Record → List (Option Outcome) → List ℕ → (before : ℕ → ℕ → Bool) → LogValue → (last : List ℕ) → Verdict
-judged records outcomes memory before log last =
-    or_verdict 1 (least (breaks_records records log.entries) (length log.entries + 1))
-    (entries_verdict before log.cores log.entries
-    (or_verdict 6 (least (breaks_outcomes outcomes log.outcomes) (length outcomes))
-    (or_verdict 7 (least (breaks_words memory last) (length memory)) Yes)))
+-- What a log is compared with: the tasks of the map; the records, the outcome of each task and the last memory of the
+-- serial run.
+pub record Expected : Type 0 where
+  pub tasks : List TaskValue
+  pub records : List Record
+  pub outcomes : List (Option Outcome)
+  pub memory : List ℕ
 
 -- The records of the instances that the serial run runs, in its order.
 abbrev pub records_of : ProgramValue → List ℕ → List Record
 records_of p m = map (record_of p) (serial_of p m).ran
 
--- The verdict on a log of a program from an opening image, with this last memory.
-abbrev pub verdict_of : (p : ProgramValue) (start : List ℕ) → (before : ℕ → ℕ → Bool) → LogValue → (last : List ℕ) → Verdict
-verdict_of p start before log last = judged (records_of p start) (serial_of p start).outcomes (serial_of p start).memory before log last
+-- What a log of a program from an opening image is compared with.
+abbrev pub expected_of : ProgramValue → List ℕ → Expected
+expected_of p m = record {
+  tasks = p.map.tasks;
+  records = records_of p m;
+  outcomes = (serial_of p m).outcomes;
+  memory = (serial_of p m).memory;
+}
+
+-- The same by what the serial run of a map left.
+abbrev pub expected_by : MapValue → AnswerValue → Expected
+expected_by m a = record {
+  tasks = m.tasks;
+  records = a.records;
+  outcomes = map (λ o. Some o) a.outcomes;
+  memory = a.image;
+}
+
+-- The seven rules, in their order.
+pub data Rule : Type 0 where
+  Records : Rule
+  Tickets : Rule
+  Order : Rule
+  Cores : Rule
+  Rise : Rule
+  Outcomes : Rule
+  Words : Rule
+
+-- The number of a rule.
+abbrev pub rank : Rule → ℕ
+rank Records = 1
+rank Tickets = 2
+rank Order = 3
+rank Cores = 4
+rank Rise = 5
+rank Outcomes = 6
+rank Words = 7
+
+-- The rule fails at place i of the log and the last memory. The places are those of entries, of tasks or of words; the
+-- rule on records has one more, the number of entries.
+abbrev pub Fails : Expected → LogValue → (last : List ℕ) → Rule → (i : ℕ) → Type 0
+Fails x log last Records i = (i < length log.entries + 1) × (breaks_records x.records log.entries i ≡ true)
+Fails x log last Tickets i = (i < length log.entries) × (breaks_tickets log.entries i ≡ true)
+Fails x log last Order i = (i < length log.entries) × BreaksOrder x.tasks log.entries i
+Fails x log last Cores i = (i < length log.entries) × (breaks_cores log.cores log.entries i ≡ true)
+Fails x log last Rise i = (i < length log.entries) × (breaks_rise log.entries i ≡ true)
+Fails x log last Outcomes i = (i < length x.outcomes) × (breaks_outcomes x.outcomes log.outcomes i ≡ true)
+Fails x log last Words i = (i < length x.memory) × (breaks_words x.memory last i ≡ true)
+
+-- The log is legal: no rule fails at any place.
+abbrev pub IsLegal : Expected → LogValue → (last : List ℕ) → Type 0
+IsLegal x log last = (rule : Rule) (i : ℕ) → Fails x log last rule i → ⊥
+
+-- The first rule that fails has this number, and this is the least place at which it fails.
+pub record IsFirstFailure (x : Expected) (log : LogValue) (last : List ℕ) (number at : ℕ) : Type 0 where
+  pub rule : Rule
+  pub numbered : number ≡ rank rule
+  pub fails : Fails x log last rule at
+  pub least : (i : ℕ) → Fails x log last rule i → at ≤ i
+  pub first : (other : Rule) (i : ℕ) → Fails x log last other i → number ≤ rank other
+
+-- The verdict: yes on a legal log, else the first rule that fails and its least place.
+abbrev pub IsVerdict : Expected → LogValue → (last : List ℕ) → Verdict → Type 0
+IsVerdict x log last Yes = IsLegal x log last
+IsVerdict x log last (No number at) = IsFirstFailure x log last number at

@@ -1,9 +1,9 @@
 //! Rule 4: cores, and the intervals of each.
-ghost use Rattle.std.specs.Prelude.{◌≡◌, ℕ, ◌*◌, ◌^◌, ◌<◌, ◌≤◌, None, length, slice_index, slice_index_or, IfOk, IfSome};
+ghost use Rattle.std.specs.Prelude.{◌≡◌, ℕ, ◌*◌, ◌^◌, ◌<◌, ◌≤◌, None, length, slice_index_or, IfOk, IfSome};
 ghost use Rattle.plural_trace.specs.declared.entry.Entry.{Entry};
 ghost use Rattle.plural_trace.specs.Least.{least};
 ghost use Rattle.plural_trace.specs.Rules.{breaks_cores, breaks_tickets, entry_at};
-ghost use Rattle.plural_trace.specs.Busy.{is_busy_at};
+ghost use Rattle.plural_trace.specs.Busy.{is_busy_at, AreStarts, HasStarts};
 
 use crate::entry::Entry;
 use plural_base::Memory;
@@ -15,8 +15,8 @@ fn starts(alloc: Global, entries: &[Entry], m: usize) -> Result<Vec<usize>, Memo
     requires m { m ≤ length entries.now }
     requires tickets { least (breaks_tickets entries.now) (length entries.now) ≡ None }
     ensures long { IfOk result (λ v. length v.items ≡ 2 * length entries.now) }
-    ensures there { IfOk result (λ v. (s : ℕ) → s < 2 * length entries.now → slice_index v.items s < m → (entry_at entries.now (slice_index v.items s)).start ≡ s) }
-    ensures each { IfOk result (λ v. (k : ℕ) → k < m → slice_index v.items (entry_at entries.now k).start ≡ k) }
+    ensures there { IfOk result (λ v. AreStarts entries.now m v.items) }
+    ensures each { IfOk result (λ v. HasStarts entries.now m v.items) }
 {
     let mut starts = vec![in alloc; m; 2 * entries.len()]?;
     for i in 0..m {

@@ -1,12 +1,11 @@
 //! The verdict on a log.
-ghost use Rattle.std.specs.Prelude.{◌≡◌, ◌<◌, ◌≤◌, ◌^◌, length, map, IfOk, Some};
+ghost use Rattle.std.specs.Prelude.{◌≡◌, ◌<◌, ◌≤◌, ◌^◌, length, IfOk};
 ghost use Rattle.std.specs.List.{All};
-ghost use Rattle.plural_reach.specs.declared.tables.Reach.{Reach};
-ghost use Rattle.plural_reach.specs.Tables.{IsReachOf, says_before};
+ghost use Rattle.plural_map.specs.Limits.{IsMap};
 ghost use Rattle.plural_serial.specs.declared.record_.Record.{Record};
 ghost use Rattle.plural_trace.specs.declared.verdict.Verdict.TheVariants.{No};
 ghost use Rattle.plural_trace.specs.Instances.{StandByInstance};
-ghost use Rattle.plural_trace.specs.Verdicts.{judged, verdict_of};
+ghost use Rattle.plural_trace.specs.Verdicts.{expected_by, expected_of, IsVerdict};
 
 use crate::compare::{outcome_fault, word_fault};
 use crate::cores::core_fault;
@@ -17,7 +16,7 @@ use crate::rise::rise_fault;
 use crate::tickets::ticket_fault;
 use crate::verdict::Verdict;
 use plural_base::Memory;
-use plural_reach::{Reach, reach};
+use plural_map::Map;
 use plural_serial::{Answer, Program, serial};
 use std::alloc::Global;
 
@@ -31,34 +30,32 @@ fn no(rule: u8, at: usize) -> Verdict
     }
 }
 
-/// The verdict on a log, by what the serial run left and which of its tasks come before which.
+/// The verdict on a log, by what the serial run of the map left.
 fn judge(
     alloc: Global,
     answer: &Answer,
-    reach: &Reach,
-    tasks: usize,
+    map: &Map,
     log: &Log,
     last: &[u32],
 ) -> Result<Verdict, Memory>
-    requires few_tasks { tasks ≤ 256 }
-    requires tasks { All (λ (r : Record). r.t < tasks) answer.now.records }
-    requires by_instance { StandByInstance answer.now.records }
+    requires tasks { All (λ (r : Record). r.t < length map.now.tasks) answer.now.records }
+    requires by_instance { IsMap map.now → StandByInstance answer.now.records }
     requires few_records { length answer.now.records ≤ 65536 }
     requires few { length log.now.entries ≤ 65536 }
-    requires one_each { length log.now.outcomes ≡ length answer.now.outcomes }
-    requires few_outcomes { length answer.now.outcomes ≤ 256 }
-    requires words { length last.now ≡ length answer.now.image }
-    requires few_words { length answer.now.image ≤ 1048576 }
-    ensures { IfOk result (λ v. v ≡ judged answer.now.records (map (λ o. Some o) answer.now.outcomes) answer.now.image (says_before reach.now) log.now last.now) }
+    requires outcomes { length answer.now.outcomes ≡ length map.now.tasks }
+    requires one_each { length log.now.outcomes ≡ length map.now.tasks }
+    requires image { length answer.now.image ≡ map.now.words }
+    requires last { length last.now ≡ map.now.words }
+    ensures { IfOk result (λ v. IsVerdict (expected_by map.now answer.now) log.now last.now v) }
 {
     let entries = log.entries();
-    if let Some(at) = record_fault(alloc, answer.records(), entries, tasks)? {
+    if let Some(at) = record_fault(alloc, answer.records(), entries, map.tasks().len())? {
         return Ok(no(1, at));
     }
     if let Some(at) = ticket_fault(alloc, entries)? {
         return Ok(no(2, at));
     }
-    if let Some(at) = order_fault(alloc, entries, reach, tasks)? {
+    if let Some(at) = order_fault(alloc, entries, map)? {
         return Ok(no(3, at));
     }
     if let Some(at) = core_fault(alloc, entries, log.cores() as usize)? {
@@ -90,12 +87,8 @@ pub fn legal(
     requires last { length last.now ≡ program.now.map.words }
     requires one_each { length log.now.outcomes ≡ length program.now.map.tasks }
     requires few { length log.now.entries ≤ 65536 }
-    // A table that says which tasks come before which is there, and the verdict is that of each.
-    ensures table { IfOk result (λ v. (r : Reach) × IsReachOf r program.now.map.tasks) }
-    ensures verdict { IfOk result (λ v. (r : Reach) → IsReachOf r program.now.map.tasks → v ≡ verdict_of program.now start.now (says_before r) log.now last.now) }
+    ensures { IfOk result (λ v. IsVerdict (expected_of program.now start.now) log.now last.now v) }
 {
     let answer = serial(alloc, program, start)?;
-    let map = program.map();
-    let reach = reach(map);
-    judge(alloc, &answer, &reach, map.tasks().len(), log, last)
+    judge(alloc, &answer, program.map(), log, last)
 }

@@ -2,13 +2,14 @@
 ghost use Rattle.std.specs.Prelude.{◌≡◌, ℕ, ◌+◌, ◌<◌, ◌≤◌, All, slice_index, length, IfOk, IfSome};
 ghost use Rattle.plural_reach.specs.Tables.{says_before};
 ghost use Rattle.plural_trace.specs.declared.entry.Entry.{Entry};
-ghost use Rattle.plural_trace.specs.Least.{least};
-ghost use Rattle.plural_trace.specs.Rules.{breaks_order};
-ghost use Rattle.plural_trace.specs.Ends.{latest_end, latest_before};
+ghost use Rattle.plural_trace.specs.Least.{IsLeast};
+ghost use Rattle.plural_trace.specs.Rules.{BreaksOrder};
+ghost use Rattle.plural_trace.specs.Ends.{latest_end, latest_before, AreLatestBefore};
 
 use crate::entry::Entry;
 use plural_base::Memory;
-use plural_reach::Reach;
+use plural_map::Map;
+use plural_reach::{Reach, reach};
 use std::alloc::Global;
 
 /// Of each task the latest end of its entries, plus one.
@@ -45,7 +46,7 @@ fn bound(reach: &Reach, ends: &[u64], u: u32) -> u64
 fn bounds(alloc: Global, reach: &Reach, ends: &[u64]) -> Result<Vec<u64>, Memory>
     requires few { length ends.now ≤ 256 }
     ensures long { IfOk result (λ v. length v.items ≡ length ends.now) }
-    ensures bounds { IfOk result (λ v. (u : ℕ) → u < length ends.now → slice_index v.items u ≡ latest_before (says_before reach.now) u ends.now (length ends.now)) }
+    ensures bounds { IfOk result (λ v. AreLatestBefore (says_before reach.now) ends.now v.items) }
 {
     let mut bounds = vec![in alloc; 0u64; ends.len()]?;
     for u in 0..ends.len() {
@@ -54,20 +55,18 @@ fn bounds(alloc: Global, reach: &Reach, ends: &[u64]) -> Result<Vec<u64>, Memory
     Ok(bounds)
 }
 
-/// The first entry that doesn't start after each end of the tasks before its own.
+/// The first entry that doesn't start after each end of the tasks that come before its own.
 pub(crate) fn order_fault(
     alloc: Global,
     entries: &[Entry],
-    reach: &Reach,
-    tasks: usize,
+    map: &Map,
 ) -> Result<Option<usize>, Memory>
-    requires few { tasks ≤ 256 }
-    requires tasks { All (λ (e : Entry). e.rec.t < tasks) entries.now }
-    ensures least { IfOk result (λ o. o ≡ least (breaks_order (says_before reach.now) entries.now) (length entries.now)) }
+    requires { All (λ (e : Entry). e.rec.t < length map.now.tasks) entries.now }
+    ensures least { IfOk result (λ o. IsLeast (BreaksOrder map.now.tasks entries.now) (length entries.now) o) }
     ensures within { IfOk result (λ o. IfSome o (λ i. i < length entries.now)) }
 {
-    let ends = latest_ends(alloc, entries, tasks)?;
-    let bounds = bounds(alloc, reach, &ends)?;
+    let ends = latest_ends(alloc, entries, map.tasks().len())?;
+    let bounds = bounds(alloc, &reach(map), &ends)?;
     for i in 0..entries.len() {
         if (entries[i].start as u64) < bounds[entries[i].rec.t as usize] {
             return Ok(Some(i));

@@ -1,6 +1,7 @@
 //! Rule 2: tickets.
-ghost use Rattle.std.specs.Prelude.{◌≡◌, ◌*◌, ◌<◌, ◌^◌, ◌||◌, not, nat_lt, false, slice_index_or, length, IfOk, IfSome};
+ghost use Rattle.std.specs.Prelude.{◌≡◌, ◌*◌, ◌<◌, ◌^◌, length, IfOk, IfSome};
 ghost use Rattle.plural_trace.specs.Least.{least};
+ghost use Rattle.plural_trace.specs.Marks.{is_misdrawn};
 ghost use Rattle.plural_trace.specs.Rules.{breaks_tickets};
 
 use crate::entry::Entry;
@@ -10,7 +11,7 @@ use std::alloc::Global;
 /// Whether the tickets are no interval below the limit, or one is marked.
 fn is_fault(drawn: &[bool], entry: &Entry, limit: usize) -> bool
     requires { length drawn.now ≡ limit }
-    ensures { result ≡ (not (nat_lt entry.now.start entry.now.end_at) || not (nat_lt entry.now.end_at limit) || slice_index_or drawn.now entry.now.start false || slice_index_or drawn.now entry.now.end_at false) }
+    ensures { result ≡ is_misdrawn drawn.now entry.now limit }
 {
     let start = entry.start as usize;
     let end_at = entry.end_at as usize;

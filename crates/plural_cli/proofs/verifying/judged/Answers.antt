@@ -12,8 +12,7 @@ returns-clause-answer c =
     let output : OutputValue = record { log = c.output.inside.log; image = c.output.inside.image.items } in
     let judged : IsJudged bundle output c.verdict_status.result c.in_ok-verdict_line.field-0.items = record {
       verdict = verdict;
-      table = c.in_ok-verdict.ensures.table;
-      exact = rw (c.deref.ensures.value, c.deref-2.ensures.value) at c.in_ok-verdict.ensures.verdict;
+      exact = rw (c.deref.ensures.value, c.deref-2.ensures.value) at c.in_ok-verdict.ensures;
       status_is = c.verdict_status.ensures;
       text_is = c.in_ok-verdict_line.ensures ∙ ap (λ (es : List Entry). verdict_text (length es) verdict) c.entries.ensures;
     } in

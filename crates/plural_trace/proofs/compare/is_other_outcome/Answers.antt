@@ -1,5 +1,5 @@
 use Rattle.std.proofs.Common.{◌∙◌, sym, ap, not}
-use Rattle.plural_trace.proofs.Judged.{outcome_test}
+use Rattle.plural_trace.proofs.SerialResults.{outcome_test}
 use Rattle.plural_trace.proofs.compare.is_other_outcome.Goals as goal
 
 pub returns : goal.returns

@@ -1,6 +1,6 @@
 use Rattle.std.proofs.Common.{length, map, Some, sym, ◌∙◌}
 use Rattle.plural_trace.specs.Rules.{breaks_outcomes}
-use Rattle.plural_trace.proofs.Places.{least_found, least_next}
+use Rattle.plural_trace.proofs.LeastPlaces.{least_found, least_next}
 use Rattle.plural_trace.proofs.compare.outcome_fault.Goals as goal
 
 pub returns-then-is_other_outcome-clause-least : goal.returns-then-is_other_outcome-clause-least

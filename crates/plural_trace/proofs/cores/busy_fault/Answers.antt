@@ -3,8 +3,8 @@ use Rattle.std.proofs.lemmas.List.{get_or_read}
 use Rattle.plural_trace.specs.Least.{least}
 use Rattle.plural_trace.specs.Rules.{no_entry, entry_at}
 use Rattle.plural_trace.specs.Busy.{is_busy_at}
-use Rattle.plural_trace.proofs.Places.{least_found}
-use Rattle.plural_trace.proofs.Swept.{AreLawful, Swept, step_next, step_meets, swept_all}
+use Rattle.plural_trace.proofs.LeastPlaces.{least_found}
+use Rattle.plural_trace.proofs.CoreSweep.{AreLawful, Swept, step_next, step_meets, swept_all}
 use Rattle.plural_trace.proofs.cores.busy_fault.Goals as goal
 use Rattle.plural_trace.proofs.cores.busy_fault.Goals.{then-j-first+then-entries-j, else-j-first, else-j-first-via-then-j-first+else-entries-j, else-j-first-via-else-j-first}
 

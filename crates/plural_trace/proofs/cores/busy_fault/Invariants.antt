@@ -1,4 +1,4 @@
-use Rattle.plural_trace.proofs.Swept.{Swept}
+use Rattle.plural_trace.proofs.CoreSweep.{Swept}
 use Rattle.plural_trace.proofs.cores.busy_fault.Given as goal
 
 abbrev pub invariant-loop-ticket : goal.invariant-loop-ticket

@@ -1,8 +1,8 @@
 use Rattle.std.proofs.Common.{◌≡◌, ◌∙◌, sym, ap, arith, length}
 use Rattle.plural_trace.specs.Least.{least}
 use Rattle.plural_trace.specs.Rules.{breaks_cores}
-use Rattle.plural_trace.proofs.Places.{least_found, least_stays}
-use Rattle.plural_trace.proofs.Latest.{cores_below, foreign_at}
+use Rattle.plural_trace.proofs.LeastPlaces.{least_found, least_stays}
+use Rattle.plural_trace.proofs.LatestEnds.{cores_below, foreign_at}
 use Rattle.plural_trace.proofs.cores.core_fault.Goals as goal
 
 pub returns-in-Some-clause-least : goal.returns-in-Some-clause-least

@@ -1,6 +1,6 @@
 use Rattle.std.proofs.Common.{◌<◌, arith, length}
 use Rattle.std.proofs.lemmas.List.{length-set}
-use Rattle.plural_trace.proofs.Swept.{start_below, starts_there, starts_each}
+use Rattle.plural_trace.proofs.CoreSweep.{start_below, starts_there, starts_each}
 use Rattle.plural_trace.proofs.cores.starts.Goals as goal
 
 pub index_mut-requires : goal.index_mut-requires

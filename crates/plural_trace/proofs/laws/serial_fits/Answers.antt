@@ -1,4 +1,4 @@
-use Rattle.plural_trace.proofs.Fits.{serial_fits}
+use Rattle.plural_trace.proofs.SerialResults.{serial_fits}
 use Rattle.plural_trace.proofs.laws.serial_fits.Goals as goal
 
 pub returns : goal.returns

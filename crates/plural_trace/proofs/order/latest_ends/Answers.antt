@@ -1,7 +1,7 @@
 use Rattle.std.proofs.Common.{◌≡◌, ◌∙◌, ◌+◌, ap, max, get_or, set, arith}
 use Rattle.std.proofs.lemmas.List.{length-set, get_or_read}
 use Rattle.plural_trace.specs.Rules.{no_entry, entry_at}
-use Rattle.plural_trace.proofs.Latest.{ends_next}
+use Rattle.plural_trace.proofs.LatestEnds.{ends_next}
 use Rattle.plural_trace.proofs.order.latest_ends.Goals as goal
 
 pub loop-i-preserved : goal.loop-i-preserved

@@ -1,6 +1,6 @@
 use Rattle.std.proofs.Common.{◌≡◌, ◌∙◌, sym, arith, true, false}
 use Rattle.std.specs.Prelude.{slice_index}
-use Rattle.plural_trace.proofs.Standing.{not_of_them, not_there}
+use Rattle.plural_trace.proofs.RecordPlaces.{not_of_them, not_there}
 use Rattle.plural_trace.proofs.records.place_of.Goals as goal
 use Rattle.plural_trace.proofs.records.place_of.Goals.{else-place-records-via-then-place-records+else-is_same_record, else-place-records-via-else-place-records}
 

@@ -3,8 +3,8 @@ use Rattle.std.specs.List.{list_all}
 use Rattle.std.proofs.lemmas.List.{length-set, get_or_read}
 use Rattle.plural_trace.specs.Least.{least}
 use Rattle.plural_trace.specs.Rules.{breaks_records}
-use Rattle.plural_trace.proofs.Places.{least_next, least_found}
-use Rattle.plural_trace.proofs.Standing.{breaks_when, breaks_by, breaks_behind, tells_more}
+use Rattle.plural_trace.proofs.LeastPlaces.{least_next, least_found}
+use Rattle.plural_trace.proofs.RecordPlaces.{breaks_when, breaks_by, breaks_after, tells_more}
 use Rattle.plural_trace.proofs.records.record_fault.Goals as goal
 use Rattle.plural_trace.proofs.records.record_fault.Goals.{in_default-via-in-Some+else-not-index, in_default-via-in_default}
 
@@ -43,7 +43,7 @@ returns-then-not-all_seen-clause-least c =
     let i = c.loop-i.i in
     let all : i ≡ length es = let a = c.loop-i-test.false in let b = c.loop-i.auto.i-end in omega arith in
     least_found (breaks_records rs es) (length es) (length es + 1) (omega arith) (ap (least (breaks_records rs es)) (sym all) ∙ c.loop-i.invariant.none)
-    (breaks_behind rs es i c.loop-i.seen.items c.loop-i.invariant.long c.loop-i-test.false c.loop-i.invariant.tells ∙ ap not (ap (list_all (λ (s : Bool). s)) (sym c.deref-2.ensures.value) ∙ sym c.all_seen.ensures ∙ c.if-not-all_seen.true))
+    (breaks_after rs es i c.loop-i.seen.items c.loop-i.invariant.long c.loop-i-test.false c.loop-i.invariant.tells ∙ ap not (ap (list_all (λ (s : Bool). s)) (sym c.deref-2.ensures.value) ∙ sym c.all_seen.ensures ∙ c.if-not-all_seen.true))
 
 pub returns-clause-least : goal.returns-clause-least
 returns-clause-least c =
@@ -52,4 +52,4 @@ returns-clause-least c =
     let i = c.loop-i.i in
     let all : i ≡ length es = let a = c.loop-i-test.false in let b = c.loop-i.auto.i-end in omega arith in
     sym (least_next (breaks_records rs es) (length es) (ap (least (breaks_records rs es)) (sym all) ∙ c.loop-i.invariant.none)
-    (breaks_behind rs es i c.loop-i.seen.items c.loop-i.invariant.long c.loop-i-test.false c.loop-i.invariant.tells ∙ ap not (ap (list_all (λ (s : Bool). s)) (sym c.deref-2.ensures.value) ∙ sym c.all_seen.ensures ∙ c.if-not-all_seen.false)))
+    (breaks_after rs es i c.loop-i.seen.items c.loop-i.invariant.long c.loop-i-test.false c.loop-i.invariant.tells ∙ ap not (ap (list_all (λ (s : Bool). s)) (sym c.deref-2.ensures.value) ∙ sym c.all_seen.ensures ∙ c.if-not-all_seen.false)))

@@ -1,7 +1,7 @@
 use Rattle.std.proofs.Common.{◌≡◌, length, None}
 use Rattle.plural_trace.specs.Least.{least}
 use Rattle.plural_trace.specs.Rules.{breaks_records}
-use Rattle.plural_trace.proofs.Standing.{Tells}
+use Rattle.plural_trace.proofs.RecordPlaces.{Tells}
 use Rattle.plural_trace.proofs.records.record_fault.Given as goal
 
 abbrev pub invariant-loop-i : goal.invariant-loop-i

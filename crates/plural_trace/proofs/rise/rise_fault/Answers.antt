@@ -1,6 +1,6 @@
 use Rattle.std.proofs.Common.{length, sym, ◌∙◌}
 use Rattle.plural_trace.specs.Rules.{breaks_rise}
-use Rattle.plural_trace.proofs.Places.{least_found, least_next}
+use Rattle.plural_trace.proofs.LeastPlaces.{least_found, least_next}
 use Rattle.plural_trace.proofs.rise.rise_fault.Goals as goal
 
 pub returns-then-is_early-clause-least : goal.returns-then-is_early-clause-least

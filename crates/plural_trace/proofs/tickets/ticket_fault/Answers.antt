@@ -1,7 +1,8 @@
 use Rattle.std.proofs.Common.{◌≡◌, ◌∙◌, ◌*◌, ◌||◌, ap, sym, not, ltb, get_or, false, length, List, Bool}
 use Rattle.std.proofs.lemmas.List.{length-set}
 use Rattle.plural_trace.specs.Rules.{breaks_tickets, entry_at}
-use Rattle.plural_trace.proofs.Places.{least_next, least_found, tickets_test, marks_next}
+use Rattle.plural_trace.proofs.LeastPlaces.{least_next, least_found}
+use Rattle.plural_trace.proofs.TicketLemmas.{tickets_test, marks_next}
 use Rattle.plural_trace.proofs.tickets.ticket_fault.Goals as goal
 
 pub returns-then-is_fault-clause-least : goal.returns-then-is_fault-clause-least

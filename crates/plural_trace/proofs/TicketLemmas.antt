@@ -1,34 +1,15 @@
--- Looking for the least place by going up.
-use Rattle.std.proofs.Common.{◌≡◌, ℕ, zero, suc, ◌+◌, ◌-◌, ◌*◌, ◌<◌, ◌≤◌, Bool, true, false, not, ◌||◌, eqb, ltb, cond, List, [], ◌∷◌, length, take, set, get_or, Option, Some, None, refl, sym, ap, ◌∙◌, arith, eqb-true}
+-- Tickets: the test by marks, and what holds of fine tickets.
+use Rattle.std.proofs.Common.{◌≡◌, ℕ, zero, suc, ◌+◌, ◌*◌, ◌<◌, ◌≤◌, Bool, true, false, not, ◌||◌, eqb, ltb, List, [], ◌∷◌, length, take, set, get_or, None, refl, sym, ap, ◌∙◌, arith}
 use Rattle.std.specs.List.{All}
-use Rattle.std.specs.Option.{option_or}
-use Rattle.std.proofs.lemmas.Bool.{cases_Bool}
 use Rattle.std.proofs.lemmas.List.{length-set, get_or_default}
 use Rattle.std.proofs.lemmas.Bool.Decides.{nat_tests}
-use Rattle.std.proofs.Common.{⊎_elim}
 use Rattle.plural_trace.specs.Least.{least}
 use Rattle.plural_trace.specs.Rules.{no_entry, entry_at, is_drawn, breaks_tickets}
 use Rattle.plural_trace.specs.declared.entry.Entry.{Entry}
+use Rattle.plural_trace.proofs.LeastPlaces.{least_none}
 
-pub least_next : (p : ℕ → Bool) (i : ℕ) → least p i ≡ None → p i ≡ false → least p (i + 1) ≡ None
-least_next p i e f =
-    ap (least p) (let s : i + 1 ≡ suc i = omega arith in s)
-    ∙ ap (λ (o : Option ℕ). option_or o (cond (p i) (Some i) None)) e ∙ ap (λ b. cond b (Some i) None) f
-
-at_least : (p : ℕ → Bool) (i d : ℕ) → least p i ≡ None → p i ≡ true → least p (suc i + d) ≡ Some i
-at_least p i zero e t = ap (least p) (let s : suc i + 0 ≡ suc i = omega arith in s) ∙ ap (λ (o : Option ℕ). option_or o (cond (p i) (Some i) None)) e ∙ ap (λ b. cond b (Some i) None) t
-at_least p i (suc d) e t = ap (least p) (let s : suc i + suc d ≡ suc (suc i + d) = omega arith in s) ∙ ap (λ (o : Option ℕ). option_or o (cond (p (suc i + d)) (Some (suc i + d)) None)) (at_least p i d e t)
-
-pub least_found : (p : ℕ → Bool) (i n : ℕ) → i < n → least p i ≡ None → p i ≡ true → Some i ≡ least p n
-least_found p i n lt e t = sym (at_least p i (n - suc i) e t) ∙ ap (least p) (let s : suc i + (n - suc i) ≡ n = omega arith in s)
-
--- a test that holds nowhere
-pub none_at_all : (p : ℕ → Bool) (n : ℕ) → ((i : ℕ) → i < n → p i ≡ false) → least p n ≡ None
-none_at_all p zero h = refl
-none_at_all p (suc n) h = ap (λ (o : Option ℕ). option_or o (cond (p n) (Some n) None)) (none_at_all p n (λ i l. h i (omega arith))) ∙ ap (λ b. cond b (Some n) None) (h n (omega arith))
-
--- one more entry
-pub is_drawn-next : (x i : ℕ) (es : List Entry) → i < length es → is_drawn x (take (i + 1) es) ≡ (is_drawn x (take i es) || (eqb (entry_at es i).start x || eqb (entry_at es i).end_at x))
+-- The tickets of one more entry.
+is_drawn-next : (x i : ℕ) (es : List Entry) → i < length es → is_drawn x (take (i + 1) es) ≡ (is_drawn x (take i es) || (eqb (entry_at es i).start x || eqb (entry_at es i).end_at x))
 is_drawn-next x i es lt = ap (λ n. is_drawn x (take n es)) (let s : i + 1 ≡ suc i = omega arith in s) ∙ more x i es lt
   where
     or_nothing : (b : Bool) → (b || false) ≡ b
@@ -53,7 +34,7 @@ or_same false false c d c' d' h = let e = h refl refl in ap (λ x. x || d) e.0 �
 below_when : (a b : ℕ) → not (ltb a b) ≡ false → a < b
 below_when a b e = grind (arith, nat_tests)
 
--- the test by marks is the test by looking back
+-- The test by marks is the test by looking back.
 pub tickets_test : (es : List Entry) (marks : List Bool) (i : ℕ) → ((x : ℕ) → x < 2 * length es → get_or marks x false ≡ is_drawn x (take i es)) →
     (not (ltb (entry_at es i).start (entry_at es i).end_at) || not (ltb (entry_at es i).end_at (2 * length es)) || get_or marks (entry_at es i).start false || get_or marks (entry_at es i).end_at false) ≡ breaks_tickets es i
 tickets_test es marks i h =
@@ -63,6 +44,7 @@ tickets_test es marks i h =
     let y : e.end_at < 2 * length es = below_when e.end_at (2 * length es) b in
     (h e.start (omega arith), h e.end_at y))
 
+-- Fine tickets are an interval below twice the number of entries.
 pub fits_when : (es : List Entry) (i : ℕ) → breaks_tickets es i ≡ false → ((entry_at es i).start < (entry_at es i).end_at) × ((entry_at es i).end_at < 2 * length es)
 fits_when es i e =
     let o = or_none _ _ _ _ e in
@@ -96,6 +78,7 @@ mark_two m s t x ls lt =
     mark (b ∷ m) (suc s) zero l = sym (or_false b) ∙ ap (λ e. b || e) (let z : false ≡ eqb (suc s) 0 = grind (arith, nat_tests) in z)
     mark (b ∷ m) (suc s) (suc x) l = mark m s x (omega arith) ∙ ap (λ e. get_or m x false || e) (grind (arith, nat_tests))
 
+-- The marks of one more entry.
 pub marks_next : (es : List Entry) (marks : List Bool) (i x : ℕ) → length marks ≡ 2 * length es → i < length es → breaks_tickets es i ≡ false → x < 2 * length es →
     get_or marks x false ≡ is_drawn x (take i es) →
     get_or (set (set marks (entry_at es i).start true) (entry_at es i).end_at true) x false ≡ is_drawn x (take (i + 1) es)
@@ -105,41 +88,11 @@ marks_next es marks i x room lt fine below h =
     mark_two marks (entry_at es i).start (entry_at es i).end_at x (omega arith) (omega arith)
     ∙ ap (λ m. m || (eqb (entry_at es i).start x || eqb (entry_at es i).end_at x)) h ∙ sym (is_drawn-next x i es lt)
 
--- tests that agree below n have one least place there
-pub least_same : (p q : ℕ → Bool) (n : ℕ) → ((i : ℕ) → i < n → p i ≡ q i) → least p n ≡ least q n
-least_same p q zero h = refl
-least_same p q (suc n) h =
-    ap (λ (o : Option ℕ). option_or o (cond (p n) (Some n) None)) (least_same p q n (λ i lt. h i (omega arith)))
-    ∙ ap (λ b. option_or (least q n) (cond b (Some n) None)) (h n (omega arith))
-
-least_more : (p : ℕ → Bool) (i m d : ℕ) → least p m ≡ Some i → least p (m + d) ≡ Some i
-least_more p i m zero e = ap (least p) (let s : m + 0 ≡ m = omega arith in s) ∙ e
-least_more p i m (suc d) e = ap (least p) (let s : m + suc d ≡ suc (m + d) = omega arith in s) ∙ ap (λ (o : Option ℕ). option_or o (cond (p (m + d)) (Some (m + d)) None)) (least_more p i m d e)
-
-pub least_stays : (p : ℕ → Bool) (i m n : ℕ) → m ≤ n → Some i ≡ least p m → Some i ≡ least p n
-least_stays p i m n le e = sym (least_more p i m (n - m) (sym e)) ∙ ap (least p) (let s : m + (n - m) ≡ n = omega arith in s)
-
-pub least_none : (p : ℕ → Bool) (i n : ℕ) → i < n → least p n ≡ None → p i ≡ false
-least_none p i n lt e = ⊎_elim (λ t. absurd (clash p i n lt t e)) (λ f. f) (cases_Bool (p i))
-  where
-    first : (p : ℕ → Bool) (n : ℕ) → least p (suc n) ≡ None → (least p n ≡ None) × (p n ≡ false)
-    first p n e = parts (least p n) (p n) n e
-      where
-        parts : (o : Option ℕ) (b : Bool) (n : ℕ) → option_or o (cond b (Some n) None) ≡ None → (o ≡ None) × (b ≡ false)
-        parts (Some i) b n h = absurd (cc h)
-        parts None true n h = absurd (cc h)
-        parts None false n h = (refl, refl)
-
-    clash : (p : ℕ → Bool) (i n : ℕ) → i < n → p i ≡ true → least p n ≡ None → ⊥
-    clash p i zero lt t e = omega arith
-    clash p i (suc n) lt t e =
-        let f = first p n e in
-        ⊎_elim (λ k. let s : p i ≡ false = ap p (eqb-true i n k) ∙ f.1 in cc (sym t ∙ s)) (λ k. clash p i n (grind (arith, nat_tests)) t f.0) (cases_Bool (eqb i n))
-
 -- Each interval starts no later than it ends.
 abbrev pub AllRise : List Entry → Type 0
 AllRise es = All (λ (e : Entry). e.start ≤ e.end_at) es
 
+-- Fine tickets rise within each entry.
 pub rise_when : (es : List Entry) → least (breaks_tickets es) (length es) ≡ None → AllRise es
 rise_when es e = λ k d lt.
     let f = fits_when es k (least_none (breaks_tickets es) k (length es) lt e) in

@@ -8,7 +8,7 @@ use Rattle.plural_serial.specs.declared.record_.Record.{Record}
 use Rattle.plural_trace.specs.declared.entry.Entry.{Entry}
 use Rattle.plural_trace.specs.Rules.{entry_at, is_of, record_for, is_same_end, is_same_record, is_recorded, has_instance, lacks_instance, breaks_records}
 use Rattle.plural_trace.specs.Instances.{record_at, StandFrom}
-use Rattle.plural_trace.proofs.Recorded.{record_test, missing_test, recorded_task, seen_more}
+use Rattle.plural_trace.proofs.RecordLookup.{record_test, missing_test, recorded_task, seen_more}
 
 -- ---- one instance, one place
 
@@ -181,7 +181,7 @@ breaks_by b rs es i p seen h li lp e tells =
     record_test rs es i li ∙ ap (λ c. not c || has_instance (entry_at es i).rec.t (entry_at es i).rec.k (take i es)) (recorded_there b rs (entry_at es i).rec p h lp e)
     ∙ (λ n. has_instance (same.t n) (same.k n) (take i es)) ∙ sym (tells p lp)
 
--- Behind the last entry the rule is broken where some place wasn't seen.
-pub breaks_behind : (rs : List Record) (es : List Entry) (i : ℕ) (seen : List Bool) → length seen ≡ length rs → length es ≤ i → Tells rs es i seen → breaks_records rs es (length es) ≡ not (list_all (λ s. s) seen)
-breaks_behind rs es i seen long le tells =
+-- After the last entry the rule is broken where some place wasn't seen.
+pub breaks_after : (rs : List Record) (es : List Entry) (i : ℕ) (seen : List Bool) → length seen ≡ length rs → length es ≤ i → Tells rs es i seen → breaks_records rs es (length es) ≡ not (list_all (λ s. s) seen)
+breaks_after rs es i seen long le tells =
     missing_test rs es ∙ lacks_when rs es seen long (λ p l. tells p l ∙ ap (has_instance (record_at rs p).t (record_at rs p).k) (take_all i es le))

@@ -70,7 +70,7 @@ below_more order i k s h = elim h [
 all_more : (P Q : Started → Type 0) (xs : List Started) → ((s : Started) → P s → Q s) → All P xs → All Q xs
 all_more P Q xs f h = λ k d lt. f (get_or xs k d) (h k d lt)
 
--- The instances of the task at place i, behind those of the places before.
+-- The instances of the task at place i, after those of the places before.
 pub record IsBlock (order : List ℕ) (i k : ℕ) (ss : List Started) : Type 0 where
   pub below : All (IsBelow order i k) ss
   pub turn : InTurn order ss
@@ -106,6 +106,7 @@ decision_run p order i decision.Run r l h =
     let b = block_of p order i q r.memory r.ran l h in
     record { placed = all_more (IsBelow order i q) (IsPlaced order (i + 1)) (r.ran ++ (instances p (slice_index order i) q r.memory).ran) (λ s x. below_placed order i q s l x) b.below; turn = b.turn }
 
+-- The instances of one task more.
 pub task_run : (p : ProgramValue) (order : List ℕ) (i : ℕ) (r : Run) → i < length order → IsRun order i r.ran → IsRun order (i + 1) (with_task p r (slice_index order i)).ran
 unfolding with_task
 task_run p order i r l h = decision_run p order i (decided (task_at p (slice_index order i)) r.outcomes) r l h

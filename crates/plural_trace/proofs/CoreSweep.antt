@@ -6,7 +6,8 @@ use Rattle.plural_trace.specs.declared.entry.Entry.{Entry}
 use Rattle.plural_trace.specs.Least.{least}
 use Rattle.plural_trace.specs.Rules.{no_entry, entry_at, is_drawn, breaks_tickets, overlaps, is_busy}
 use Rattle.plural_trace.specs.Busy.{is_busy_at}
-use Rattle.plural_trace.proofs.Places.{least_none, none_at_all, fits_when, rise_when}
+use Rattle.plural_trace.proofs.LeastPlaces.{least_none, none_at_all}
+use Rattle.plural_trace.proofs.TicketLemmas.{fits_when, rise_when}
 
 -- ---- starts differ
 
@@ -31,6 +32,7 @@ undrawn es i e = third (not (ltb (entry_at es i).start (entry_at es i).end_at)) 
     third false false true d e = absurd (cc e)
     third false false false d e = refl
 
+-- Entries of fine tickets that start alike are the same.
 pub starts_differ : (es : List Entry) (k l : ℕ) → least (breaks_tickets es) (length es) ≡ None → k < length es → l < length es → (entry_at es k).start ≡ (entry_at es l).start → k ≡ l
 starts_differ es k l fine lk ll e = elim (cases_order k l) [
   | inl same ↦ same
@@ -47,6 +49,7 @@ starts_differ es k l fine lk ll e = elim (cases_order k l) [
 
 -- ---- which entry starts at a ticket
 
+-- Fine tickets start below twice the number of entries.
 pub start_below : (es : List Entry) (i : ℕ) → least (breaks_tickets es) (length es) ≡ None → i < length es → (entry_at es i).start < 2 * length es
 start_below es i fine l = let f = fits_when es i (least_none (breaks_tickets es) i (length es) l fine) in omega (arith, f.0, f.1)
 
@@ -64,6 +67,7 @@ starts_there es m i starts fine long l there s ls lm = elim (cases_eq s (entry_a
       rw old (there s ls (rw old at lm))
 ]
 
+-- One more entry is found at its start.
 pub starts_each : (es : List Entry) (i : ℕ) (starts : List ℕ) → least (breaks_tickets es) (length es) ≡ None → length starts ≡ 2 * length es → i < length es
     → ((k : ℕ) → k < i → get_or starts (entry_at es k).start 0 ≡ k) → (k : ℕ) → k < i + 1 → get_or (set starts (entry_at es i).start i) (entry_at es k).start 0 ≡ k
 starts_each es i starts fine long l each k lk = elim (cases_eq k i) [
@@ -129,6 +133,7 @@ pub record AreLawful (es : List Entry) (m cores : ℕ) : Type 0 where
   pub tickets : least (breaks_tickets es) (length es) ≡ None
   pub own : (k : ℕ) → k < m → (entry_at es k).core < cores
 
+-- Before the first ticket nothing is known.
 pub swept_none : (es : List Entry) (m cores : ℕ) → Swept es m cores 0 m (replicate cores m)
 swept_none es m cores = record {
   long = length-replicate cores m;
@@ -164,7 +169,7 @@ swept_less es m cores s first less last le busy h = record {
   ended = λ k l b other. h.ended k (omega arith) b other;
 }
 
--- An entry that starts at the ticket, behind the end of the last that started on its core.
+-- An entry that starts at the ticket, after the end of the last that started on its core.
 swept_next : (es : List Entry) (m cores s first i : ℕ) (last : List ℕ) → AreLawful es m cores → i < first → (entry_at es i).start ≡ s
     → (get_or last (entry_at es i).core 0 < first → (entry_at es (get_or last (entry_at es i).core 0)).end_at < s) → Swept es m cores s first last → Swept es m cores (s + 1) first (set last (entry_at es i).core i)
 swept_next es m cores s first i last law li at free h = record {
@@ -172,9 +177,9 @@ swept_next es m cores s first i last law li at free h = record {
   within = h.within;
   busy = h.busy;
   apart = λ k l lk ll other bk bl e. elim (cases_eq k i) [
-    | inl here ↦ inr (let b = behind l ll (λ x. other (here ∙ sym x)) bl (sym e ∙ ap core here) in let a = ap start here in omega arith)
+    | inl here ↦ inr (let b = earlier l ll (λ x. other (here ∙ sym x)) bl (sym e ∙ ap core here) in let a = ap start here in omega arith)
     | inr there ↦ elim (cases_eq l i) [
-      | inl here ↦ inl (let b = behind k lk there bk (e ∙ ap core here) in let a = ap start here in omega arith)
+      | inl here ↦ inl (let b = earlier k lk there bk (e ∙ ap core here) in let a = ap start here in omega arith)
       | inr also ↦ h.apart k l lk ll other (below k lk there bk) (below l ll also bl) e
     ]
   ];
@@ -183,7 +188,7 @@ swept_next es m cores s first i last law li at free h = record {
     | inr there ↦ rw (old d there) (let a = h.started d l (rw (old d there) at v) in (omega (arith, a.0), a.1))
   ];
   ended = λ k l b other. elim (cases_eq (entry_at es k).core c) [
-    | inl here ↦ rw (new (entry_at es k).core here) (im, (let e = behind k l (λ x. other (x ∙ sym (new (entry_at es k).core here))) b here in let a = at in omega arith))
+    | inl here ↦ rw (new (entry_at es k).core here) (im, (let e = earlier k l (λ x. other (x ∙ sym (new (entry_at es k).core here))) b here in let a = at in omega arith))
     | inr there ↦ rw (old (entry_at es k).core there) (h.ended k l (below k l (λ x. there (ap core x)) b) (λ x. other (x ∙ sym (old (entry_at es k).core there))))
   ];
 }
@@ -215,8 +220,8 @@ swept_next es m cores s first i last law li at free h = record {
       | inr e ↦ omega (arith, e)
     ]
 
-    behind : (k : ℕ) → k < first → (k ≡ i → ⊥) → (entry_at es k).start < s + 1 → (entry_at es k).core ≡ c → (entry_at es k).end_at < s
-    behind k l other b e = elim (cases_eq k (get_or last c 0)) [
+    earlier : (k : ℕ) → k < first → (k ≡ i → ⊥) → (entry_at es k).start < s + 1 → (entry_at es k).core ≡ c → (entry_at es k).end_at < s
+    earlier k l other b e = elim (cases_eq k (get_or last c 0)) [
       | inl here ↦ subst (λ x. (entry_at es x).end_at < s) (sym here) (free (subst (λ x. x < first) here l))
       | inr there ↦
           let f = subst (λ d. (k ≡ get_or last d 0 → ⊥) → (get_or last d 0 < m) × ((entry_at es k).end_at < (entry_at es (get_or last d 0)).start)) e (h.ended k l (below k l other b)) there in
@@ -272,19 +277,20 @@ swept_meets es m cores s first i last law li at lj meets h = elim (cases_lt i j)
     apart_places : i ≡ j → ⊥
     apart_places e = let a = ap (λ k. (entry_at es k).start) e in let b = known.0 in omega arith
 
--- The two steps by the last entry j that started on the core of entry i.
+-- The step where entry i starts after the end of the last entry j that started on its core.
 pub step_next : (es : List Entry) (m cores first i j : ℕ) (last : List ℕ) → AreLawful es m cores → i < first → j ≡ get_or last (entry_at es i).core 0 → (j < first → (entry_at es j).end_at < (entry_at es i).start)
     → Swept es m cores (entry_at es i).start first last → Swept es m cores ((entry_at es i).start + 1) first (set last (entry_at es i).core i)
 step_next es m cores first i j last law li is free h =
     swept_next es m cores (entry_at es i).start first i last law li refl (subst (λ x. x < first → (entry_at es x).end_at < (entry_at es i).start) is free) h
 
+-- The step where the two intervals meet.
 pub step_meets : (es : List Entry) (m cores first i j : ℕ) (last : List ℕ) → AreLawful es m cores → i < first → j ≡ get_or last (entry_at es i).core 0 → j < first → (entry_at es i).start ≤ (entry_at es j).end_at
     → Swept es m cores (entry_at es i).start first last → Swept es m cores ((entry_at es i).start + 1) (max i j) (set last (entry_at es i).core (min i j))
 step_meets es m cores first i j last law li is lj meets h =
     rw is
     (swept_meets es m cores (entry_at es i).start first i last law li refl (subst (λ x. x < first) is lj) (subst (λ x. (entry_at es i).start ≤ (entry_at es x).end_at) is meets) h)
 
--- Behind all tickets: no entry before the first found overlaps an earlier one.
+-- After all tickets: no entry before the first found overlaps an earlier one.
 pub swept_all : (es : List Entry) (m cores s first : ℕ) (last : List ℕ) → AreLawful es m cores → 2 * length es ≤ s → Swept es m cores s first last → least (is_busy_at es) first ≡ None
 swept_all es m cores s first last law le h =
     none_at_all (is_busy_at es) first (λ i l.

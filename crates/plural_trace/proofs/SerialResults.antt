@@ -1,31 +1,28 @@
--- What the verdict stands on: the tasks of the serial run, and that any table of a map's order serves.
-use Rattle.std.proofs.Common.{◌≡◌, ℕ, zero, suc, ◌+◌, ◌<◌, Bool, true, false, not, ◌||◌, ◌&&◌, ltb, List, [], ◌∷◌, length, map, take, get_or, Option, Some, None, refl, sym, ap, ◌∙◌, arith}
-use Rattle.std.specs.Prelude.{fold, Result, Ok, Err, IfOk}
+-- What a serial run leaves: records of the map's tasks, an outcome for each task, what a log is compared with.
+use Rattle.std.proofs.Common.{◌≡◌, ℕ, zero, suc, ◌+◌, ◌<◌, Bool, true, false, not, ◌||◌, List, [], ◌∷◌, length, map, take, get_or, Option, Some, None, refl, sym, ap, ◌∙◌, arith}
+use Rattle.std.specs.Prelude.{fold}
 use Rattle.std.specs.List.{All}
-use Rattle.std.proofs.lemmas.List.{length-set, length-replicate, get_or_default}
+use Rattle.std.proofs.lemmas.List.{length-map, length-set, length-replicate, get_or_default}
 use Rattle.std.proofs.lemmas.List.Elements.{All-append, All-push, All-head, All-tail, All-cons}
 use Rattle.plural_map.specs.declared.outcome.Outcome.{Outcome}
 use Rattle.plural_map.specs.declared.outcome.Decision.{Decision}
 use Rattle.plural_map.specs.declared.outcome.Decision.TheVariants as decision
-use Rattle.plural_map.specs.Value.{TaskValue, MapValue}
+use Rattle.plural_map.specs.Value.{MapValue}
 use Rattle.plural_map.specs.Limits.{IsMap}
 use Rattle.plural_map.specs.Decisions.{decided}
-use Rattle.plural_reach.specs.declared.tables.Reach.{Reach}
-use Rattle.plural_reach.specs.Tables.{IsReachOf, says_before}
 use Rattle.plural_serial.specs.declared.record_.Record.{Record}
 use Rattle.plural_serial.specs.Program.{ProgramValue, task_at}
 use Rattle.plural_serial.specs.Serial.{Started, Run, instances, with_task, by_decision, opening, serial_of}
 use Rattle.plural_serial.specs.Answer.{AnswerValue, IsSerial, record_of}
+use Rattle.plural_serial.proofs.Few.{few_records}
 use Rattle.plural_serial.proofs.Settled.{next_within}
 use Rattle.plural_trace.specs.declared.entry.Entry.{Entry}
-use Rattle.plural_trace.specs.declared.verdict.Verdict.{Verdict}
-use Rattle.plural_trace.specs.declared.verdict.Verdict.TheVariants.{Yes}
-use Rattle.plural_trace.specs.Logs.{LogValue}
+use Rattle.plural_trace.specs.Laws.{SerialFits}
 use Rattle.plural_trace.specs.Least.{least}
-use Rattle.plural_trace.specs.Rules.{no_entry, entry_at, is_recorded, has_instance, breaks_records, breaks_tickets, ends_late, breaks_order, breaks_cores, breaks_rise, is_same_outcome, breaks_outcomes, breaks_words}
-use Rattle.plural_trace.specs.Verdicts.{or_verdict, judged, records_of, verdict_of}
-use Rattle.plural_trace.proofs.Places.{least_same, least_none}
-use Rattle.plural_trace.proofs.Recorded.{record_test, recorded_task}
+use Rattle.plural_trace.specs.Rules.{no_entry, entry_at, is_recorded, has_instance, breaks_records, is_same_outcome, breaks_outcomes}
+use Rattle.plural_trace.specs.Verdicts.{records_of, expected_of, expected_by}
+use Rattle.plural_trace.proofs.LeastPlaces.{least_none}
+use Rattle.plural_trace.proofs.RecordLookup.{record_test, recorded_task}
 
 -- ---- outcomes at a place
 
@@ -109,53 +106,16 @@ entries_within tasks rs es h e = λ i d l.
     first true b e = refl
     first false b e = absurd cc
 
--- ---- any table of the map serves
+-- ---- what a log is compared with
 
-same_truth : (a b : Bool) → (a ≡ true → b ≡ true) → (b ≡ true → a ≡ true) → a ≡ b
-same_truth true true f g = refl
-same_truth true false f g = sym (f refl)
-same_truth false true f g = g refl
-same_truth false false f g = refl
+-- What the serial run left tells what a log is compared with.
+pub expected_same : (p : ProgramValue) (m : List ℕ) (a : AnswerValue) → IsSerial p m a → expected_by p.map a ≡ expected_of p m
+expected_same p m a run = λ i. record { tasks = p.map.tasks; records = run.records i; outcomes = run.outcomes i; memory = run.image i }
 
-tables_agree : (r s : Reach) (tasks : List TaskValue) → IsReachOf r tasks → IsReachOf s tasks → (t u : ℕ) → u < length tasks → says_before r t u ≡ says_before s t u
-tables_agree r s tasks h k t u l =
-    same_truth (says_before r t u) (says_before s t u) (λ e. (k.exact t u l).1 ((h.exact t u l).0 e)) (λ e. (h.exact t u l).1 ((k.exact t u l).0 e))
-
-late_same : (b c : ℕ → ℕ → Bool) (u start : ℕ) (es : List Entry) → ((t : ℕ) → b t u ≡ c t u) → ends_late b u start es ≡ ends_late c u start es
-late_same b c u start [] h = refl
-late_same b c u start (e ∷ es) h =
-    ap (λ x. (x && not (ltb e.end_at start)) || ends_late b u start es) (h e.rec.t) ∙ ap (λ x. (c e.rec.t u && not (ltb e.end_at start)) || x) (late_same b c u start es h)
-
-order_same : (b c : ℕ → ℕ → Bool) (tasks : ℕ) (es : List Entry) → All (λ (e : Entry). e.rec.t < tasks) es → ((t u : ℕ) → u < tasks → b t u ≡ c t u)
-    → least (breaks_order b es) (length es) ≡ least (breaks_order c es) (length es)
-order_same b c tasks es h same =
-    least_same (breaks_order b es) (breaks_order c es) (length es) (λ i l. late_same b c (entry_at es i).rec.t (entry_at es i).start es (λ t. same t (entry_at es i).rec.t (h i no_entry l)))
-
--- Where two tests agree on the tasks of the map, the verdict is the same.
-judged_same : (rs : List Record) (os : List (Option Outcome)) (ws : List ℕ) (b c : ℕ → ℕ → Bool) (log : LogValue) (last : List ℕ) (tasks : ℕ) → All (λ (r : Record). r.t < tasks) rs
-    → ((t u : ℕ) → u < tasks → b t u ≡ c t u) → judged rs os ws b log last ≡ judged rs os ws c log last
-judged_same rs os ws b c log last tasks h same = by (least (breaks_records rs log.entries) (length log.entries + 1)) refl
-  where
-    after : Verdict
-    after =
-        or_verdict 4 (least (breaks_cores log.cores log.entries) (length log.entries))
-        (or_verdict 5 (least (breaks_rise log.entries) (length log.entries))
-        (or_verdict 6 (least (breaks_outcomes os log.outcomes) (length os))
-        (or_verdict 7 (least (breaks_words ws last) (length ws)) Yes)))
-
-    by : (o : Option ℕ) → least (breaks_records rs log.entries) (length log.entries + 1) ≡ o
-        → or_verdict 1 o (or_verdict 2 (least (breaks_tickets log.entries) (length log.entries)) (or_verdict 3 (least (breaks_order b log.entries) (length log.entries)) after))
-        ≡ or_verdict 1 o (or_verdict 2 (least (breaks_tickets log.entries) (length log.entries)) (or_verdict 3 (least (breaks_order c log.entries) (length log.entries)) after))
-    by (Some i) e = refl
-    by None e =
-        ap (λ o. or_verdict 2 (least (breaks_tickets log.entries) (length log.entries)) (or_verdict 3 o after))
-        (order_same b c tasks log.entries (entries_within tasks rs log.entries h e) same)
-
--- The verdict by what the serial run left and one table is that of the program by any table.
-pub legal_by : {E : Type 0} (p : ProgramValue) (m : List ℕ) (a : AnswerValue) (log : LogValue) (last : List ℕ) (s : Reach) (result : Result Verdict E) → IsMap p.map → IsSerial p m a → IsReachOf s p.map.tasks
-    → IfOk result (λ v. v ≡ judged a.records (map (λ o. Some o) a.outcomes) a.image (says_before s) log last)
-    → IfOk result (λ v. (r : Reach) → IsReachOf r p.map.tasks → v ≡ verdict_of p m (says_before r) log last)
-legal_by p m a log last s (Ok v) limits run k h =
-    λ r l. h ∙ (λ i. judged (run.records i) (run.outcomes i) (run.image i) (says_before s) log last)
-    ∙ judged_same (records_of p m) (serial_of p m).outcomes (serial_of p m).memory (says_before s) (says_before r) log last (length p.map.tasks) (records_within p m limits) (tables_agree s r p.map.tasks k l)
-legal_by p m a log last s (Err e) limits run k h = tt
+-- What a serial run leaves fits a log of the map.
+pub serial_fits : SerialFits
+serial_fits p m a limits run = (
+  rw (ap length run.records, length-map (serial_of p m).ran (record_of p)) (few_records p m limits),
+  sym (length-map a.outcomes (λ o. Some o)) ∙ ap length run.outcomes ∙ outcomes_each p m,
+  rw run.records (records_within p m limits),
+)
