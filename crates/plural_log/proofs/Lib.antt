@@ -1,5 +1,6 @@
-pub mod Numbered
+pub mod NameNumbers
 pub mod Words
-pub mod Printed
+pub mod TaskTexts
 pub mod Reading
-pub mod Again
+pub mod RoundTrip
+pub mod Ranges

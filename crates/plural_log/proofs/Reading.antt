@@ -98,35 +98,36 @@ pub none_of_four : (a b c d : Bool) → a ≡ false → b ≡ false → c ≡ fa
 none_of_four a b c d e f g h = rw (e, f, g, h) refl
 
 -- A kind holds where its test does.
-abbrev kind_test : List TaskValue → (n : ℕ) → LogValue → LogLine → LogKind → Bool
-kind_test tasks n log s k = test_of (is_out_of_place (length tasks) n s) (is_out_of_range s) (is_misnamed tasks n s) (is_too_many log s) k
+abbrev kind_test : List TaskValue → (n entries : ℕ) → LogLine → LogKind → Bool
+kind_test tasks n entries s k = test_of (is_out_of_place (length tasks) n s) (is_out_of_range s) (is_misnamed tasks n s) (is_too_many entries s) k
 
-kind_from : (tasks : List TaskValue) (n : ℕ) (log : LogValue) (s : LogLine) (k : LogKind) → kind_test tasks n log s k ≡ true → HasKind tasks n log s k
-kind_from tasks n log s kinds.Form h = h
-kind_from tasks n log s kinds.Number h = h
-kind_from tasks n log s kinds.Name h = h
-kind_from tasks n log s kinds.Count h = h
+kind_from : (tasks : List TaskValue) (n entries : ℕ) (s : LogLine) (k : LogKind) → kind_test tasks n entries s k ≡ true → HasKind tasks n entries s k
+kind_from tasks n entries s kinds.Form h = h
+kind_from tasks n entries s kinds.Number h = h
+kind_from tasks n entries s kinds.Name h = h
+kind_from tasks n entries s kinds.Count h = h
 
-test_from : (tasks : List TaskValue) (n : ℕ) (log : LogValue) (s : LogLine) (k : LogKind) → HasKind tasks n log s k → kind_test tasks n log s k ≡ true
-test_from tasks n log s kinds.Form h = h
-test_from tasks n log s kinds.Number h = h
-test_from tasks n log s kinds.Name h = h
-test_from tasks n log s kinds.Count h = h
+test_from : (tasks : List TaskValue) (n entries : ℕ) (s : LogLine) (k : LogKind) → HasKind tasks n entries s k → kind_test tasks n entries s k ≡ true
+test_from tasks n entries s kinds.Form h = h
+test_from tasks n entries s kinds.Number h = h
+test_from tasks n entries s kinds.Name h = h
+test_from tasks n entries s kinds.Count h = h
 
 -- No test answers both.
 both : {b : Bool} → b ≡ false → b ≡ true → ⊥
 both e f = cc
 
 -- A line without a least kind has no kind.
-no_kind : (tasks : List TaskValue) (n : ℕ) (log : LogValue) (s : LogLine) → least_kind tasks n log s ≡ None → (k : LogKind) → HasKind tasks n log s k → ⊥
-no_kind tasks n log s e k h = both (none_holds _ _ _ _ e k) (test_from tasks n log s k h)
+no_kind : (tasks : List TaskValue) (n entries : ℕ) (s : LogLine) → least_kind tasks n entries s ≡ None → (k : LogKind) → HasKind tasks n entries s k → ⊥
+no_kind tasks n entries s e k h = both (none_holds _ _ _ _ e k) (test_from tasks n entries s k h)
 
 -- It passes each of the four tests.
-pub passes : (tasks : List TaskValue) (n : ℕ) (log : LogValue) (s : LogLine) → least_kind tasks n log s ≡ None → (k : LogKind) → kind_test tasks n log s k ≡ false
-passes tasks n log s e k = none_holds _ _ _ _ e k
+pub passes : (tasks : List TaskValue) (n entries : ℕ) (s : LogLine) → least_kind tasks n entries s ≡ None → (k : LogKind) → kind_test tasks n entries s k ≡ false
+passes tasks n entries s e k = none_holds _ _ _ _ e k
 
-pub in_range : (tasks : List TaskValue) (n : ℕ) (log : LogValue) (s : LogLine) → least_kind tasks n log s ≡ None → is_out_of_range s ≡ false
-in_range tasks n log s e = passes tasks n log s e kinds.Number
+-- Its numbers are in their ranges.
+pub in_range : (tasks : List TaskValue) (n entries : ℕ) (s : LogLine) → least_kind tasks n entries s ≡ None → is_out_of_range s ≡ false
+in_range tasks n entries s e = passes tasks n entries s e kinds.Number
 
 -- ---- what the reader knows after some lines
 
@@ -148,7 +149,7 @@ number_below (t ∷ ts) name h = by_first (bytes_eq t.name name) (number_below t
         let below = rest later in
         rw e (omega (arith, below))
 
-counted_more : (tasks : List TaskValue) (n : ℕ) (log : LogValue) (s : LogLine) → is_out_of_place (length tasks) n s ≡ false → is_misnamed tasks n s ≡ false → is_too_many log s ≡ false
+counted_more : (tasks : List TaskValue) (n : ℕ) (log : LogValue) (s : LogLine) → is_out_of_place (length tasks) n s ≡ false → is_misnamed tasks n s ≡ false → is_too_many (length log.entries) s ≡ false
     → IsCounted (length tasks) n log → IsCounted (length tasks) (n + 1) (with_line tasks log s)
 counted_more tasks n log (line.First cores) p m t c =
     let zero : n ≡ 0 = eqb-true n 0 (not-false _ p) in
@@ -171,11 +172,13 @@ counted_more tasks n log line.End p m t c =
     let high : length tasks < n = leb-false _ _ p in
     record { outcomes = let o = c.outcomes in omega arith; few = c.few; known = c.known }
 
+-- Lines without a fault, and the log that they spell.
 pub record Reads (tasks : List TaskValue) (lines : List TextLine) (log : LogValue) : Type 0 where
   pub faultless : IsFaultless (Breaks tasks) lines
   pub value : log ≡ log_of tasks lines
   pub counted : IsCounted (length tasks) (length lines) log
 
+-- Before the first line nothing is read.
 pub reads_nothing : (tasks : List TaskValue) → Reads tasks [] nothing
 reads_nothing tasks = record {
   faultless = faultless_nil (Breaks tasks);
@@ -183,9 +186,9 @@ reads_nothing tasks = record {
   counted = record { outcomes = omega arith; few = omega arith; known = λ k d lt. absurd (omega arith) };
 }
 
--- the faults of a line that has a shape are those of its shape
+-- The faults of a line that has a shape are those of its shape.
 by_shape : (tasks : List TaskValue) (xs : List Line) (i : ℕ) (d : Line) (log : LogValue) (s : LogLine) → i < length xs → Reads tasks (text_lines (take i xs)) log
-    → Some s ≡ shape_of (get_or xs i d).text.now → (k : LogKind) → Breaks tasks (text_lines (take i xs)) (get_or xs i d).text.now k ≡ HasKind tasks i log s k
+    → Some s ≡ shape_of (get_or xs i d).text.now → (k : LogKind) → Breaks tasks (text_lines (take i xs)) (get_or xs i d).text.now k ≡ HasKind tasks i (length log.entries) s k
 by_shape tasks xs i d log s l r e k = rw (← e, length_before xs i (omega arith), ← r.value) refl
 
 -- ---- a line with a fault
@@ -196,36 +199,39 @@ form_first tasks xs i d log l r e =
     first_fault rank (Breaks tasks) text_line xs i d kinds.Form l r.faultless (rw (← e) refl) (λ k b. let same : k ≡ kinds.Form = rw (← e) at b in rw same (omega arith))
 
 kind_first : (tasks : List TaskValue) (xs : List Line) (i : ℕ) (d : Line) (log : LogValue) (s : LogLine) (kind : LogKind) → i < length xs → Reads tasks (text_lines (take i xs)) log
-    → Some s ≡ shape_of (get_or xs i d).text.now → least_kind tasks i log s ≡ Some kind → IsFirstFault rank (Breaks tasks) (text_lines xs) (get_or xs i d).number kind
+    → Some s ≡ shape_of (get_or xs i d).text.now → least_kind tasks i (length log.entries) s ≡ Some kind → IsFirstFault rank (Breaks tasks) (text_lines xs) (get_or xs i d).number kind
 kind_first tasks xs i d log s kind l r e v =
     first_fault rank (Breaks tasks) text_line xs i d kind l r.faultless
-    (rw (by_shape tasks xs i d log s l r e kind) (kind_from tasks i log s kind (first_holds _ _ _ _ kind v)))
-    (λ k b. first_least _ _ _ _ kind k v (test_from tasks i log s k (rw (by_shape tasks xs i d log s l r e k) at b)))
+    (rw (by_shape tasks xs i d log s l r e kind) (kind_from tasks i (length log.entries) s kind (first_holds _ _ _ _ kind v)))
+    (λ k b. first_least _ _ _ _ kind k v (test_from tasks i (length log.entries) s k (rw (by_shape tasks xs i d log s l r e k) at b)))
 
--- The fault of a line behind lines without one is the first of the section.
+-- The fault of a line after lines without one is the first of the section.
 pub line_first : (tasks : List TaskValue) (xs : List Line) (end i : ℕ) (d : Line) (log : LogValue) (kind : LogKind) → i < length xs → Reads tasks (text_lines (take i xs)) log
-    → IsLineFault tasks i log (get_or xs i d).text.now kind → IsFirstFault rank (Breaks tasks) (closed (text_lines xs) end) (get_or xs i d).number kind
+    → IsLineFault tasks i (length log.entries) (get_or xs i d).text.now kind → IsFirstFault rank (Breaks tasks) (closed (text_lines xs) end) (get_or xs i d).number kind
 line_first tasks xs end i d log kind l r f = first_before rank (Breaks tasks) (text_lines xs) ((end, []) ∷ []) (get_or xs i d).number kind (by_line (shape_of (get_or xs i d).text.now) refl)
   where
     by_line : (o : Option LogLine) → shape_of (get_or xs i d).text.now ≡ o → IsFirstFault rank (Breaks tasks) (text_lines xs) (get_or xs i d).number kind
     by_line None e = let same : kind ≡ kinds.Form = rw e at f in rw same (form_first tasks xs i d log l r (sym e))
-    by_line (Some s) e = let v : least_kind tasks i log s ≡ Some kind = rw e at f in kind_first tasks xs i d log s kind l r (sym e) v
+    by_line (Some s) e = let v : least_kind tasks i (length log.entries) s ≡ Some kind = rw e at f in kind_first tasks xs i d log s kind l r (sym e) v
 
 -- ---- a line without one
 
-pub reads_push : (tasks : List TaskValue) (lines : List TextLine) (l : TextLine) (log : LogValue) (s : LogLine) → Reads tasks lines log → shape_of l.1 ≡ Some s → least_kind tasks (length lines) log s ≡ None
+-- One more line without a fault, after lines that were read.
+pub reads_push : (tasks : List TaskValue) (lines : List TextLine) (l : TextLine) (log : LogValue) (s : LogLine) → Reads tasks lines log → shape_of l.1 ≡ Some s → least_kind tasks (length lines) (length log.entries) s ≡ None
     → Reads tasks (lines ++ l ∷ []) (with_line tasks log s)
 reads_push tasks lines l log s r e v = record {
-  faultless = faultless_push (Breaks tasks) lines l r.faultless (λ k b. no_kind tasks (length lines) log s v k (rw (e, ← r.value) at b));
+  faultless = faultless_push (Breaks tasks) lines l r.faultless (λ k b. no_kind tasks (length lines) (length log.entries) s v k (rw (e, ← r.value) at b));
   value = ap (λ x. with_line tasks x s) r.value ∙ sym (fold_push (with_text tasks) nothing lines l ∙ ap (λ o. option_map_or (with_line tasks (log_of tasks lines)) o (log_of tasks lines)) e);
-  counted = rw (length_push lines l) (counted_more tasks (length lines) log s (passes tasks (length lines) log s v kinds.Form) (passes tasks (length lines) log s v kinds.Name) (passes tasks (length lines) log s v kinds.Count) r.counted);
+  counted = rw (length_push lines l) (counted_more tasks (length lines) log s (passes tasks (length lines) (length log.entries) s v kinds.Form) (passes tasks (length lines) (length log.entries) s v kinds.Name) (passes tasks (length lines) (length log.entries) s v kinds.Count) r.counted);
 }
 
+-- One more line of those that are read.
 pub reads_more : (tasks : List TaskValue) (xs : List Line) (i : ℕ) (d : Line) (log next : LogValue) (s : LogLine) → i < length xs → Reads tasks (text_lines (take i xs)) log
-    → Some s ≡ shape_of (get_or xs i d).text.now → least_kind tasks i log s ≡ None → next ≡ with_line tasks log s → Reads tasks (text_lines (take (i + 1) xs)) next
+    → Some s ≡ shape_of (get_or xs i d).text.now → least_kind tasks i (length log.entries) s ≡ None → next ≡ with_line tasks log s → Reads tasks (text_lines (take (i + 1) xs)) next
 reads_more tasks xs i d log next s l r e v n =
     rw (n, map_more text_line xs i d l) (reads_push tasks (text_lines (take i xs)) (text_line (get_or xs i d)) log s r (sym e) (rw (length_before xs i (omega arith)) v))
 
+-- After the last line all are read.
 pub reads_all : (tasks : List TaskValue) (xs : List Line) (i : ℕ) (log : LogValue) → length xs ≤ i → Reads tasks (text_lines (take i xs)) log → Reads tasks (text_lines xs) log
 reads_all tasks xs i log h r = subst (λ (ys : List Line). Reads tasks (text_lines ys) log) (take_all i xs h) r
 
@@ -249,14 +255,16 @@ end_first tasks xs end log r h = record {
     rank_low kinds.Name = omega arith
     rank_low kinds.Count = omega arith
 
--- Where all do, the section has no fault, and the log has one outcome for each task.
+-- Where all do, the section has no fault.
 pub closed_reads : (tasks : List TaskValue) (lines : List TextLine) (end : ℕ) (log : LogValue) → Reads tasks lines log → length tasks < length lines → IsFaultless (Breaks tasks) (closed lines end)
 closed_reads tasks lines end log r h =
     let past : leb (length lines) (length tasks) ≡ false = lt-leb (length lines) (length tasks) h in
-    faultless_push (Breaks tasks) lines (end, []) r.faultless (λ k b. no_kind tasks (length lines) (log_of tasks lines) line.End (rw past refl) k b)
+    faultless_push (Breaks tasks) lines (end, []) r.faultless (λ k b. no_kind tasks (length lines) (length (log_of tasks lines).entries) line.End (rw past refl) k b)
 
+-- The same of the lines as they are read.
 pub closed_faultless : (tasks : List TaskValue) (xs : List Line) (end : ℕ) (log : LogValue) → Reads tasks (text_lines xs) log → length tasks < length xs → IsFaultless (Breaks tasks) (closed (text_lines xs) end)
 closed_faultless tasks xs end log r h = closed_reads tasks (text_lines xs) end log r (rw (length-map xs text_line) h)
 
+-- A log that was read has one outcome for each task.
 pub one_each : (tasks : List TaskValue) (xs : List Line) (log : LogValue) → Reads tasks (text_lines xs) log → length tasks < length xs → length log.outcomes ≡ length tasks
 one_each tasks xs log r h = let o = r.counted.outcomes in omega (arith, o, h, length-map xs text_line)

@@ -25,7 +25,7 @@ cut (c ∷ cs) = by (is_blank c) refl (cut cs)
     by true e h = record { first = []; others = slice_split is_blank cs; is = rw e refl; front = refl }
     by false e h = record { first = c ∷ h.first; others = h.others; is = rw (e, h.is) refl; front = ap (λ (x : List ℕ). c ∷ x) h.front }
 
--- Behind a text that is empty or begins with a blank the first piece is empty.
+-- Before a text that is empty or begins with a blank the first piece is empty.
 none_first : (r : List ℕ) (h : Cut r) → (length r ≡ 0) ⊎ (length (drop_while is_blank r) < length r) → h.first ≡ []
 none_first [] h e = let is = h.is in cc
 none_first (c ∷ cs) h e = by (is_blank c) refl h.is e
@@ -60,7 +60,7 @@ kept t ts l = cond-true _ _ _ (lt-ltb 0 (length t) l)
 
 -- ---- the tokens of a text by a word
 
--- What is left behind a word that a text begins with.
+-- What is left after a word that a text begins with.
 front_word : (t w : List ℕ) → bytes_eq (take (length w) t) w ≡ true → w ++ drop (length w) t ≡ t
 front_word t w e = ap (λ (x : List ℕ). x ++ drop (length w) t) (sym ((bytes_eq-Decides (take (length w) t) w).0 e)) ∙ take-append-drop (length w) t
 
@@ -71,7 +71,7 @@ word_tokens t w h word e =
     let long : 0 < length (w ++ h.first) = omega (arith, length-append w h.first) in
     ap tokens (sym (front_word t w e)) ∙ ap (filter has_text) (word_cut w (drop (length w) t) h p.1) ∙ kept (w ++ h.first) h.others long
 
--- A text that begins with a word: what stands behind it, with and without the blanks in front.
+-- A text that begins with a word: what stands after it, with the blanks before it and without.
 pub record BeginsWith (text w r rest : List ℕ) : Type 0 where
   pub trimmed : List ℕ
   pub same : tokens trimmed ≡ tokens text
@@ -84,9 +84,9 @@ pub word_ahead : (text w r rest : List ℕ) → is_one_word w ≡ true → Begin
 word_ahead text w r rest word b ends =
     let h = cut (drop (length w) b.trimmed) in
     let none : h.first ≡ [] = none_first (drop (length w) b.trimmed) h (rw (← b.is, ← b.rest_is) ends) in
-    let behind : tokens (drop (length w) b.trimmed) ≡ filter has_text h.others = ap (filter has_text) h.is ∙ rw none refl in
+    let later : tokens (drop (length w) b.trimmed) ≡ filter has_text h.others = ap (filter has_text) h.is ∙ rw none refl in
     sym b.same ∙ word_tokens b.trimmed w h word b.front ∙ rw none (ap (λ (x : List ℕ). x ∷ filter has_text h.others) (append-nil w))
-    ∙ ap (λ (ts : List (List ℕ)). w ∷ ts) (sym behind ∙ ap tokens (sym b.is) ∙ sym (tokens_trimmed r) ∙ ap tokens (sym b.rest_is))
+    ∙ ap (λ (ts : List (List ℕ)). w ∷ ts) (sym later ∙ ap tokens (sym b.is) ∙ sym (tokens_trimmed r) ∙ ap tokens (sym b.rest_is))
 
 -- Where another byte follows the word, it isn't.
 pub word_longer : (text w r rest : List ℕ) (ts : List (List ℕ)) → is_one_word w ≡ true → BeginsWith text w r rest → 0 < length r → length r ≤ length rest → tokens text ≡ w ∷ ts → ⊥

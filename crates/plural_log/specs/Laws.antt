@@ -12,6 +12,8 @@ use Rattle.plural_log.specs.Spelled.{log_of}
 use Rattle.plural_log.specs.Faults.{Breaks}
 
 -- The content lines of a printed log have no fault and spell the log, whichever line closes them.
-abbrev pub LogAgain : Type 0
-LogAgain = (m : MapValue) (log : LogValue) (end : ℕ) → IsMap m → All (λ (t : TaskValue). IsTrue (is_name t.name)) m.tasks → IsLog m log
-    → IsFaultless (Breaks m.tasks) (closed (content_lines (log_text m log)) end) × (log_of m.tasks (content_lines (log_text m log)) ≡ log)
+abbrev pub LogRoundTrip : Type 0
+LogRoundTrip = (m : MapValue) (log : LogValue) (end : ℕ) → IsMap m
+    → All (λ (t : TaskValue). IsTrue (is_name t.name)) m.tasks → IsLog m log
+    → IsFaultless (Breaks m.tasks) (closed (content_lines (log_text m log)) end)
+    × (log_of m.tasks (content_lines (log_text m log)) ≡ log)

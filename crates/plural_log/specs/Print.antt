@@ -38,15 +38,21 @@ end_text end.Exhausted = codes "spent"
 
 -- ` n I loads L misses M stores S`
 abbrev pub counts_text : Record → List ℕ
-counts_text r = codes " n " ++ (decimal r.instructions ++ (codes " loads " ++ (decimal r.loads ++ (codes " misses " ++ (decimal r.misses ++ (codes " stores " ++ decimal r.stores))))))
+counts_text r =
+    codes " n " ++ (decimal r.instructions ++ (codes " loads " ++ (decimal r.loads
+    ++ (codes " misses " ++ (decimal r.misses ++ (codes " stores " ++ decimal r.stores))))))
 
 -- ` core C from A to B` and the line's end.
 abbrev pub times_text : Entry → List ℕ
-times_text e = codes " core " ++ (decimal e.core ++ (codes " from " ++ (decimal e.start ++ (codes " to " ++ (decimal e.end_at ++ codes "\n")))))
+times_text e =
+    codes " core " ++ (decimal e.core ++ (codes " from " ++ (decimal e.start
+    ++ (codes " to " ++ (decimal e.end_at ++ codes "\n")))))
 
 -- run NAME K END n I loads L misses M stores S core C from A to B
 abbrev pub entry_text : List TaskValue → Entry → List ℕ
-entry_text tasks e = codes "run " ++ (name_at tasks e.rec.t ++ (codes " " ++ (decimal e.rec.k ++ (codes " " ++ (end_text e.rec.«end» ++ (counts_text e.rec ++ times_text e))))))
+entry_text tasks e =
+    codes "run " ++ (name_at tasks e.rec.t ++ (codes " " ++ (decimal e.rec.k ++ (codes " " ++ (end_text e.rec.«end»
+    ++ (counts_text e.rec ++ times_text e))))))
 
 -- The lines of a log: the number of its cores, a line for each task, a line for each entry.
 abbrev pub log_text : MapValue → LogValue → List ℕ

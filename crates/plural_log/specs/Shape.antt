@@ -1,8 +1,9 @@
 -- The shapes of log lines.
-use Rattle.std.specs.Prelude.{ℕ, ◌&&◌, List, [], ◌∷◌, Option, Some, None, option_map, option_and_then, codes, bytes_eq, if◌then◌else◌}
+use Rattle.std.specs.Prelude.{ℕ, min, ◌&&◌, List, [], ◌∷◌, Option, Some, None, option_map, option_and_then, codes, bytes_eq, if◌then◌else◌}
 use Rattle.plural_bytes.specs.Lines.{tokens}
 use Rattle.plural_base.specs.Names.{name_of}
-use Rattle.plural_sections.specs.Numbers.{word_token, counted}
+use Rattle.plural_sections.specs.Numbers.{word_token}
+use Rattle.plural_bytes.specs.Numerals.{numeral}
 use Rattle.plural_map.specs.declared.outcome.Outcome.{Outcome}
 use Rattle.plural_map.specs.declared.outcome.Outcome.TheVariants as outcome
 use Rattle.plural_log.specs.declared.line.EndShape.{EndShape}
@@ -12,17 +13,29 @@ use Rattle.plural_log.specs.declared.line.Times.{Times}
 use Rattle.plural_log.specs.declared.line.LogLine.{LogLine}
 use Rattle.plural_log.specs.declared.line.LogLine.TheVariants as line
 
+-- The number of a numeral; one above 4,294,967,295 is read as 4,294,967,296. None if the token is no numeral.
+abbrev pub capped : List ℕ → Option ℕ
+capped t = option_map (λ n. min n 4294967296) (numeral t)
+
 -- log 1 cores N
 abbrev pub first_line : List (List ℕ) → Option LogLine
-first_line (v ∷ c ∷ n ∷ []) = if bytes_eq v (codes "1") && bytes_eq c (codes "cores") then option_map (λ cores. line.First cores) (counted n) else None
+first_line (v ∷ c ∷ n ∷ []) =
+    if bytes_eq v (codes "1") && bytes_eq c (codes "cores")
+    then option_map (λ cores. line.First cores) (capped n)
+    else None
 first_line ts = None
 
 -- `ended 0`, `ended 1`, `skipped` or `failed`.
 abbrev pub outcome_of : List (List ℕ) → Option Outcome
-outcome_of (w ∷ []) = if bytes_eq w (codes "skipped") then Some outcome.Skipped else if bytes_eq w (codes "failed") then Some outcome.Failed else None
+outcome_of (w ∷ []) =
+    if bytes_eq w (codes "skipped") then Some outcome.Skipped
+    else if bytes_eq w (codes "failed") then Some outcome.Failed
+    else None
 outcome_of (w ∷ c ∷ []) =
     if bytes_eq w (codes "ended")
-    then (if bytes_eq c (codes "0") then Some outcome.Ended0 else if bytes_eq c (codes "1") then Some outcome.Ended1 else None)
+    then (if bytes_eq c (codes "0") then Some outcome.Ended0
+    else if bytes_eq c (codes "1") then Some outcome.Ended1
+    else None)
     else None
 outcome_of ts = None
 
@@ -31,9 +44,9 @@ abbrev pub task_line : List (List ℕ) → Option LogLine
 task_line (n ∷ ts) = option_and_then (λ name. option_map (λ o. line.Task name o) (outcome_of ts)) (name_of n)
 task_line [] = None
 
--- A word and a number in front of tokens: the number, and the tokens behind it.
-abbrev pub field : List ℕ → List (List ℕ) → Option (Option ℕ × List (List ℕ))
-field word (w ∷ n ∷ ts) = if bytes_eq w word then option_map (λ m. (m, ts)) (counted n) else None
+-- A word and a number before tokens: the number, and the tokens after it.
+abbrev pub field : List ℕ → List (List ℕ) → Option (ℕ × List (List ℕ))
+field word (w ∷ n ∷ ts) = if bytes_eq w word then option_map (λ m. (m, ts)) (capped n) else None
 field word ts = None
 
 -- The times where no token is left.
@@ -41,7 +54,7 @@ abbrev pub at_end : List (List ℕ) → Times → Option Times
 at_end [] times = Some times
 at_end (t ∷ ts) times = None
 
--- n I loads L misses M stores S, and the tokens behind.
+-- n I loads L misses M stores S, and the tokens after.
 abbrev pub counts_of : List (List ℕ) → Option (Counts × List (List ℕ))
 counts_of ts =
     option_and_then (λ i.
@@ -53,7 +66,7 @@ counts_of ts =
     (field (codes "loads") i.1))
     (field (codes "n") ts)
 
--- core C from A to B, and nothing behind.
+-- core C from A to B, and nothing after.
 abbrev pub times_of : List (List ℕ) → Option Times
 times_of ts =
     option_and_then (λ c.
@@ -63,20 +76,23 @@ times_of ts =
     (field (codes "from") c.1))
     (field (codes "core") ts)
 
--- trap X pc PPPPPPPP, and the tokens behind.
+-- trap X pc PPPPPPPP, and the tokens after.
 abbrev pub trap_of : List (List ℕ) → Option (EndShape × List (List ℕ))
 trap_of (x ∷ w ∷ p ∷ ts) =
     if bytes_eq w (codes "pc")
-    then option_and_then (λ cause. option_map (λ pc. (end.Trap cause pc, ts)) (word_token p)) (counted x)
+    then option_and_then (λ cause. option_map (λ pc. (end.Trap cause pc, ts)) (word_token p)) (capped x)
     else None
 trap_of ts = None
 
--- code 0, code 1, and the tokens behind.
+-- code 0, code 1, and the tokens after.
 abbrev pub code_of : List (List ℕ) → Option (EndShape × List (List ℕ))
-code_of (c ∷ ts) = if bytes_eq c (codes "0") then Some (end.Code0, ts) else if bytes_eq c (codes "1") then Some (end.Code1, ts) else None
+code_of (c ∷ ts) =
+    if bytes_eq c (codes "0") then Some (end.Code0, ts)
+    else if bytes_eq c (codes "1") then Some (end.Code1, ts)
+    else None
 code_of [] = None
 
--- code 0, code 1, trap X pc PPPPPPPP, spent, and the tokens behind.
+-- code 0, code 1, trap X pc PPPPPPPP, spent, and the tokens after.
 abbrev pub end_of : List (List ℕ) → Option (EndShape × List (List ℕ))
 end_of (w ∷ ts) =
     if bytes_eq w (codes "code") then code_of ts
@@ -96,7 +112,7 @@ run_line (n ∷ k ∷ ts) =
     (times_of c.1))
     (counts_of e.1))
     (end_of ts))
-    (counted k))
+    (capped k))
     (name_of n)
 run_line ts = None
 

@@ -1,9 +1,10 @@
 -- The log that log lines spell.
-use Rattle.std.specs.Prelude.{ℕ, List, [], ◌∷◌, ◌++◌, Option, fold, unwrap_or}
+use Rattle.std.specs.Prelude.{ℕ, List, [], ◌∷◌, ◌++◌, fold}
 use Rattle.std.specs.Option.{option_map_or}
 use Rattle.plural_bytes.specs.Lines.{TextLine}
 use Rattle.plural_core.specs.declared.end.End.{End}
 use Rattle.plural_core.specs.declared.end.End.TheVariants as ended
+use Rattle.plural_map.specs.declared.outcome.Outcome.{Outcome}
 use Rattle.plural_map.specs.Value.{TaskValue}
 use Rattle.plural_map.specs.Lookup.{number_of}
 use Rattle.plural_trace.specs.declared.entry.Entry.{Entry}
@@ -20,36 +21,41 @@ use Rattle.plural_log.specs.Shape.{shape_of}
 abbrev pub end_value : EndShape → End
 end_value end.Code0 = ended.Code0
 end_value end.Code1 = ended.Code1
-end_value (end.Trap cause pc) = ended.Trap (unwrap_or cause 0) pc
+end_value (end.Trap cause pc) = ended.Trap cause pc
 end_value end.Spent = ended.Exhausted
 
 -- The entry of an entry's line.
-abbrev pub entry_value : List TaskValue → List ℕ → Option ℕ → EndShape → Counts → Times → Entry
+abbrev pub entry_value : List TaskValue → List ℕ → ℕ → EndShape → Counts → Times → Entry
 entry_value tasks name k e c t = record {
   rec = record {
     t = number_of name tasks;
-    k = unwrap_or k 0;
+    k = k;
     «end» = end_value e;
-    instructions = unwrap_or c.instructions 0;
-    loads = unwrap_or c.loads 0;
-    misses = unwrap_or c.misses 0;
-    stores = unwrap_or c.stores 0;
+    instructions = c.instructions;
+    loads = c.loads;
+    misses = c.misses;
+    stores = c.stores;
   };
-  core = unwrap_or t.core 0;
-  start = unwrap_or t.start 0;
-  end_at = unwrap_or t.end_at 0;
+  core = t.core;
+  start = t.start;
+  end_at = t.end_at;
 }
 
 -- The log after one more line.
 abbrev pub with_line : List TaskValue → LogValue → LogLine → LogValue
-with_line tasks log (line.First cores) = record log { cores = unwrap_or cores 0 }
+with_line tasks log (line.First cores) = record log { cores = cores }
 with_line tasks log (line.Task name outcome) = record log { outcomes = log.outcomes ++ outcome ∷ [] }
-with_line tasks log (line.Run name k e c t) = record log { entries = log.entries ++ entry_value tasks name k e c t ∷ [] }
+with_line tasks log (line.Run name k e c t) =
+    record log { entries = log.entries ++ entry_value tasks name k e c t ∷ [] }
 with_line tasks log line.End = log
 
 -- The log after one more text line; one without a shape changes nothing.
 abbrev pub with_text : List TaskValue → LogValue → TextLine → LogValue
 with_text tasks log l = option_map_or (with_line tasks log) (shape_of l.1) log
+
+-- The log of these parts.
+abbrev pub log_by : (cores : ℕ) → List Outcome → List Entry → LogValue
+log_by cores outcomes entries = record { cores = cores; outcomes = outcomes; entries = entries }
 
 -- The log before any line.
 abbrev pub nothing : LogValue

@@ -1,4 +1,4 @@
-//! Whether a log line fits behind the lines before it.
+//! Whether a log line fits after the lines before it.
 ghost use Rattle.std.specs.Prelude.{◌≡◌, ◌<◌, ◌≤◌, ℕ, List, length, false, IfErr, IfOk, Some, None};
 ghost use Rattle.std.specs.BTreeMap.{get_by};
 ghost use Rattle.std.specs.Cmp.Lexicographic.{slice_cmp};
@@ -6,7 +6,7 @@ ghost use Rattle.std.specs.Ordering.{nat_cmp};
 ghost use Rattle.plural_log.specs.declared.fault.LogKind.TheVariants.{Form};
 ghost use Rattle.plural_log.specs.Numbers.{number_for, task_of};
 ghost use Rattle.plural_log.specs.Shape.{shape_of};
-ghost use Rattle.plural_log.specs.Faults.{is_out_of_place, is_no_end, lacks_count, lacks_time, is_out_of_range, is_misnamed, is_too_many, least_kind, IsLineFault};
+ghost use Rattle.plural_log.specs.Faults.{is_out_of_place, is_no_end, is_large, has_large_count, has_large_time, is_out_of_range, is_misnamed, is_too_many, least_kind, IsLineFault};
 
 use crate::fault::LogKind;
 use crate::line::{Counts, EndShape, LogLine, Times};
@@ -14,8 +14,6 @@ use crate::numbers::number_of;
 use crate::shape::shape_of;
 use plural_bytes::Name;
 use plural_map::Task;
-use plural_sections::is_between;
-use plural_trace::Log;
 use std::collections::BTreeMap;
 
 fn is_out_of_place(tasks: usize, n: usize, line: &LogLine) -> bool
@@ -32,43 +30,49 @@ fn is_no_end(end: EndShape) -> bool
     ensures { result ≡ is_no_end end }
 {
     match end {
-        EndShape::Trap { cause, .. } => !is_between(1, 9, cause),
+        EndShape::Trap { cause, .. } => !(1 <= cause && cause <= 9),
         EndShape::Code0 | EndShape::Code1 | EndShape::Spent => false,
     }
 }
 
-fn lacks_count(counts: Counts) -> bool
-    ensures { result ≡ lacks_count counts }
+fn is_large(n: u64) -> bool
+    ensures { result ≡ is_large n }
 {
-    counts.instructions.is_none()
-        || counts.loads.is_none()
-        || counts.misses.is_none()
-        || counts.stores.is_none()
+    n > 4_294_967_295
 }
 
-fn lacks_time(times: Times) -> bool
-    ensures { result ≡ lacks_time times }
+fn has_large_count(counts: Counts) -> bool
+    ensures { result ≡ has_large_count counts }
 {
-    times.core.is_none() || times.start.is_none() || times.end_at.is_none()
+    is_large(counts.instructions)
+        || is_large(counts.loads)
+        || is_large(counts.misses)
+        || is_large(counts.stores)
+}
+
+fn has_large_time(times: Times) -> bool
+    ensures { result ≡ has_large_time times }
+{
+    is_large(times.core) || is_large(times.start) || is_large(times.end_at)
 }
 
 fn is_out_of_range(line: &LogLine) -> bool
     ensures { result ≡ is_out_of_range line.now }
 {
     match *line {
-        LogLine::First { cores } => !is_between(1, 64, cores),
+        LogLine::First { cores } => !(1 <= cores && cores <= 64),
         LogLine::Run {
             k,
             end,
             counts,
             times,
             ..
-        } => k.is_none() || is_no_end(end) || lacks_count(counts) || lacks_time(times),
+        } => is_large(k) || is_no_end(end) || has_large_count(counts) || has_large_time(times),
         LogLine::Task { .. } | LogLine::End => false,
     }
 }
 
-/// The number of the task that a line names, where it is an entry's; the number of tasks where none has the name, and for
+/// The number of the task that a line names, if it is an entry's; the number of tasks if none has the name, and for
 /// other lines.
 fn task_of(tasks: &[Task], numbers: &BTreeMap<Name, u32>, line: &LogLine) -> u32
     requires few { length tasks.now ≤ 256 }
@@ -93,20 +97,26 @@ fn is_misnamed(tasks: &[Task], task: u32, n: usize, line: &LogLine) -> bool
     }
 }
 
-fn is_too_many(log: &Log, line: &LogLine) -> bool
-    ensures { result ≡ is_too_many log.now line.now }
+fn is_too_many(entries: usize, line: &LogLine) -> bool
+    ensures { result ≡ is_too_many entries line.now }
 {
     match line {
-        LogLine::Run { .. } => log.entries().len() >= 65_536,
+        LogLine::Run { .. } => entries >= 65_536,
         LogLine::First { .. } | LogLine::Task { .. } | LogLine::End => false,
     }
 }
 
-/// The fault of a line of a shape behind `n` lines that spell the log, if it has one, by the number of the task that it
-/// names.
-fn least_kind(tasks: &[Task], task: u32, n: usize, log: &Log, line: &LogLine) -> Option<LogKind>
+/// The fault of a line of a shape after `n` lines that spell so many entries, if it has one, by the number of the task
+/// that it names.
+fn least_kind(
+    tasks: &[Task],
+    task: u32,
+    n: usize,
+    entries: usize,
+    line: &LogLine,
+) -> Option<LogKind>
     requires { task ≡ task_of tasks.now line.now }
-    ensures { result ≡ least_kind tasks.now n log.now line.now }
+    ensures { result ≡ least_kind tasks.now n entries line.now }
 {
     if is_out_of_place(tasks.len(), n, line) {
         return Some(LogKind::Form);
@@ -117,39 +127,39 @@ fn least_kind(tasks: &[Task], task: u32, n: usize, log: &Log, line: &LogLine) ->
     if is_misnamed(tasks, task, n, line) {
         return Some(LogKind::Name);
     }
-    if is_too_many(log, line) {
+    if is_too_many(entries, line) {
         return Some(LogKind::Count);
     }
     None
 }
 
-/// A log line without a fault, and the number of the task that it names, where it is an entry's.
+/// A log line without a fault, and the number of the task that it names, if it is an entry's.
 #[derive(Clone, Copy)]
 pub(crate) struct FaultlessLine {
     pub line: LogLine,
     pub task: u32,
 }
 
-/// The shape of a line behind `n` lines that spell the log, or its fault.
+/// The shape of a line after `n` lines that spell so many entries, or its fault.
 pub(crate) fn checked(
     tasks: &[Task],
     numbers: &BTreeMap<Name, u32>,
     n: usize,
-    log: &Log,
+    entries: usize,
     text: &[u8],
 ) -> Result<FaultlessLine, LogKind>
     requires few { length tasks.now ≤ 256 }
     requires numbers { (q : List ℕ) → get_by (λ k. slice_cmp nat_cmp q k) numbers.now ≡ number_for tasks.now q }
     ensures shape { IfOk result (λ s. Some s.line ≡ shape_of text.now) }
-    ensures fine { IfOk result (λ s. least_kind tasks.now n log.now s.line ≡ None) }
+    ensures fine { IfOk result (λ s. least_kind tasks.now n entries s.line ≡ None) }
     ensures task { IfOk result (λ s. s.task ≡ task_of tasks.now s.line) }
-    ensures fault { IfErr result (λ kind. IsLineFault tasks.now n log.now text.now kind) }
+    ensures fault { IfErr result (λ kind. IsLineFault tasks.now n entries text.now kind) }
 {
     let Some(line) = shape_of(text) else {
         return Err(LogKind::Form);
     };
     let task = task_of(tasks, numbers, &line);
-    match least_kind(tasks, task, n, log, &line) {
+    match least_kind(tasks, task, n, entries, &line) {
         Some(kind) => Err(kind),
         None => Ok(FaultlessLine { line, task }),
     }

@@ -1,8 +1,8 @@
 //! Laws over the definitions.
 
-ghost use Rattle.plural_log.specs.Laws.{LogAgain};
+ghost use Rattle.plural_log.specs.Laws.{LogRoundTrip};
 
 /// The lines of a printed log are read as that log.
-pub fn log_again()
-    ensures { LogAgain }
+pub fn log_round_trip()
+    ensures { LogRoundTrip }
 {}

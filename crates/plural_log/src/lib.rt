@@ -2,10 +2,10 @@
 //!
 //! Promise: reading gives the log that the lines spell, or exactly their first fault (`specs/Faults.antt`,
 //! `specs/Spelled.antt`); printing gives the canonical lines (`specs/Print.antt`), which, read again, have no fault and
-//! spell the log (`laws::log_again`).
+//! spell the log (`laws::log_round_trip`).
 //!
-//! Stands on `plural_trace`, whose logs it spells, `plural_map_text` (names of tasks) and `plural_image` (words of eight
-//! digits). `plural_output` prints and reads logs beside a memory.
+//! Stands on `plural_trace`, whose logs it spells, `plural_map_text` (names of tasks) and `plural_image` (words of
+//! eight digits). `plural_output` prints and reads logs beside a memory.
 #![tactic(auto)]
 
 mod fault;

@@ -9,7 +9,7 @@ pub enum EndShape {
     /// `code 1`
     Code1,
     /// `trap X pc PPPPPPPP`
-    Trap { cause: Option<u32>, pc: u32 },
+    Trap { cause: u64, pc: u32 },
     /// `spent`
     Spent,
 }
@@ -17,26 +17,26 @@ pub enum EndShape {
 /// `n I loads L misses M stores S`
 #[derive(Clone, Copy, Debug)]
 pub struct Counts {
-    pub instructions: Option<u32>,
-    pub loads: Option<u32>,
-    pub misses: Option<u32>,
-    pub stores: Option<u32>,
+    pub instructions: u64,
+    pub loads: u64,
+    pub misses: u64,
+    pub stores: u64,
 }
 
 /// `core C from A to B`
 #[derive(Clone, Copy, Debug)]
 pub struct Times {
-    pub core: Option<u32>,
-    pub start: Option<u32>,
-    pub end_at: Option<u32>,
+    pub core: u64,
+    pub start: u64,
+    pub end_at: u64,
 }
 
-/// A log line by its shape. A number is `None` where it is above 4,294,967,295.
+/// A log line by its shape. A number above 4,294,967,295 is read as 4,294,967,296.
 #[derive(Clone, Copy, Debug)]
 pub enum LogLine {
     /// `log 1 cores N`
     First {
-        cores: Option<u32>,
+        cores: u64,
     },
     /// `task NAME ended 0`, `task NAME ended 1`, `task NAME skipped` and `task NAME failed`
     Task {
@@ -46,7 +46,7 @@ pub enum LogLine {
     /// `run NAME K END n I loads L misses M stores S core C from A to B`
     Run {
         name: Name,
-        k: Option<u32>,
+        k: u64,
         end: EndShape,
         counts: Counts,
         times: Times,

@@ -14,9 +14,10 @@ use plural_map::Task;
 use std::alloc::Global;
 use std::collections::BTreeMap;
 
-/// Gives a name its number, where it has none yet.
+/// Gives a name its number, if it has none yet.
 fn note(numbers: &mut BTreeMap<Name, u32>, name: &Name, t: u32) -> Result<(), LogError>
-    ensures ok { OnOk result ((q : List ℕ) → get_by (λ k. slice_cmp nat_cmp q k) numbers.new ≡ option_or (get_by (λ k. slice_cmp nat_cmp q k) numbers.old) (if bytes_eq name.now q then Some t else None)) }
+    ensures ok { OnOk result ((q : List ℕ) → get_by (λ k. slice_cmp nat_cmp q k) numbers.new
+        ≡ option_or (get_by (λ k. slice_cmp nat_cmp q k) numbers.old) (if bytes_eq name.now q then Some t else None)) }
     ensures err { IfErr result (λ e. e ≡ Memory) }
 {
     if !numbers.contains_key(name) {
@@ -28,7 +29,8 @@ fn note(numbers: &mut BTreeMap<Name, u32>, name: &Name, t: u32) -> Result<(), Lo
 /// The number of the first task of each name.
 pub(crate) fn numbers(alloc: Global, tasks: &[Task]) -> Result<BTreeMap<Name, u32>, LogError>
     requires { length tasks.now ≤ 256 }
-    ensures ok { IfOk result (λ m. (q : List ℕ) → get_by (λ k. slice_cmp nat_cmp q k) m ≡ number_for tasks.now q) }
+    ensures ok { IfOk result
+        (λ m. (q : List ℕ) → get_by (λ k. slice_cmp nat_cmp q k) m ≡ number_for tasks.now q) }
     ensures err { IfErr result (λ e. e ≡ Memory) }
 {
     let mut numbers = BTreeMap::new(alloc);
@@ -38,7 +40,7 @@ pub(crate) fn numbers(alloc: Global, tasks: &[Task]) -> Result<BTreeMap<Name, u3
     Ok(numbers)
 }
 
-/// The number of the first task of this name; the number of tasks where none has it.
+/// The number of the first task of this name; the number of tasks if none has it.
 pub(crate) fn number_of(tasks: &[Task], numbers: &BTreeMap<Name, u32>, name: &Name) -> u32
     requires few { length tasks.now ≤ 256 }
     requires numbers { (q : List ℕ) → get_by (λ k. slice_cmp nat_cmp q k) numbers.now ≡ number_for tasks.now q }

@@ -2,12 +2,23 @@
 ghost use Rattle.std.specs.Prelude.{◌≡◌, ℕ, true, List, Some, None, MatchOption, codes, [], ◌∷◌};
 ghost use Rattle.plural_bytes.specs.Lines.{tokens};
 ghost use Rattle.plural_log.specs.Words.{is_one_word};
-ghost use Rattle.plural_log.specs.Shape.{first_line, outcome_of, task_line, field, counts_of, times_of, trap_of, code_of, end_of, run_line, shape_of};
+ghost use Rattle.plural_log.specs.Shape.{capped, first_line, outcome_of, task_line, field, counts_of, times_of, trap_of, code_of, end_of, run_line, shape_of};
 
 use crate::line::{Counts, EndShape, LogLine, Times};
-use plural_bytes::{Name, is_word, next_token, trim_start};
+use plural_bytes::{Name, NumberError, is_word, next_token, number, trim_start};
 use plural_map::Outcome;
-use plural_sections::{counted, word_of};
+use plural_sections::word_of;
+
+/// The number of a numeral; one above 4,294,967,295 is read as 4,294,967,296. Nothing if the text is no numeral.
+fn capped(text: &[u8]) -> Option<u64>
+    ensures { result ≡ capped text.now }
+{
+    match number(text, 4_294_967_295) {
+        Err(NumberError::Form) => None,
+        Err(NumberError::Range) => Some(4_294_967_296),
+        Ok(n) => Some(n),
+    }
+}
 
 fn first_line(text: &[u8]) -> Option<LogLine>
     ensures { result ≡ first_line (tokens text.now) }
@@ -21,7 +32,7 @@ fn first_line(text: &[u8]) -> Option<LogLine>
     if !(is_word(version, b"1") && is_word(word, b"cores")) {
         return None;
     }
-    let cores = counted(count)?;
+    let cores = capped(count)?;
     Some(LogLine::First { cores })
 }
 
@@ -75,32 +86,35 @@ fn task_line(text: &[u8]) -> Option<LogLine>
     Some(LogLine::Task { name, outcome })
 }
 
-/// What stands behind a word that is a text's first token.
+/// What stands after a word that is a text's first token.
 fn after_word<'a>(text: &'a [u8], word: &[u8]) -> Option<&'a [u8]>
     requires { is_one_word word.now ≡ true }
-    ensures { MatchOption result ((ts : List (List ℕ)) → tokens text.now ≡ word.now ∷ ts → ⊥) (λ r. tokens text.now ≡ word.now ∷ tokens r.now) }
+    ensures { MatchOption result ((ts : List (List ℕ)) → tokens text.now ≡ word.now ∷ ts → ⊥)
+        (λ r. tokens text.now ≡ word.now ∷ tokens r.now) }
 {
-    let behind = trim_start(text).strip_prefix(word)?;
-    let rest = trim_start(behind);
-    if behind.is_empty() || rest.len() < behind.len() {
+    let after = trim_start(text).strip_prefix(word)?;
+    let rest = trim_start(after);
+    if after.is_empty() || rest.len() < after.len() {
         Some(rest)
     } else {
         None
     }
 }
 
-/// The number behind a word, and what stands after it.
-fn field<'a>(text: &'a [u8], word: &[u8]) -> Option<(Option<u32>, &'a [u8])>
+/// The number after a word, and what stands after that.
+fn field<'a>(text: &'a [u8], word: &[u8]) -> Option<(u64, &'a [u8])>
     requires { is_one_word word.now ≡ true }
-    ensures { MatchOption result (field word.now (tokens text.now) ≡ None) (λ r. field word.now (tokens text.now) ≡ Some (r.0, tokens r.1.now)) }
+    ensures { MatchOption result (field word.now (tokens text.now) ≡ None)
+        (λ r. field word.now (tokens text.now) ≡ Some (r.0, tokens r.1.now)) }
 {
     let (count, rest) = next_token(after_word(text, word)?)?;
-    let count = counted(count)?;
+    let count = capped(count)?;
     Some((count, rest))
 }
 
 fn counts_of(text: &[u8]) -> Option<(Counts, &[u8])>
-    ensures { MatchOption result (counts_of (tokens text.now) ≡ None) (λ r. counts_of (tokens text.now) ≡ Some (r.0, tokens r.1.now)) }
+    ensures { MatchOption result (counts_of (tokens text.now) ≡ None)
+        (λ r. counts_of (tokens text.now) ≡ Some (r.0, tokens r.1.now)) }
 {
     let (instructions, rest) = field(text, b"n")?;
     let (loads, rest) = field(rest, b"loads")?;
@@ -132,7 +146,8 @@ fn times_of(text: &[u8]) -> Option<Times>
 }
 
 fn trap_of(text: &[u8]) -> Option<(EndShape, &[u8])>
-    ensures { MatchOption result (trap_of (tokens text.now) ≡ None) (λ r. trap_of (tokens text.now) ≡ Some (r.0, tokens r.1.now)) }
+    ensures { MatchOption result (trap_of (tokens text.now) ≡ None)
+        (λ r. trap_of (tokens text.now) ≡ Some (r.0, tokens r.1.now)) }
 {
     let (cause, rest) = next_token(text)?;
     let (word, rest) = next_token(rest)?;
@@ -140,13 +155,14 @@ fn trap_of(text: &[u8]) -> Option<(EndShape, &[u8])>
     if !is_word(word, b"pc") {
         return None;
     }
-    let cause = counted(cause)?;
+    let cause = capped(cause)?;
     let pc = word_of(pc)?;
     Some((EndShape::Trap { cause, pc }, rest))
 }
 
 fn code_of(text: &[u8]) -> Option<(EndShape, &[u8])>
-    ensures { MatchOption result (code_of (tokens text.now) ≡ None) (λ r. code_of (tokens text.now) ≡ Some (r.0, tokens r.1.now)) }
+    ensures { MatchOption result (code_of (tokens text.now) ≡ None)
+        (λ r. code_of (tokens text.now) ≡ Some (r.0, tokens r.1.now)) }
 {
     let (code, rest) = next_token(text)?;
     if is_word(code, b"0") {
@@ -159,7 +175,8 @@ fn code_of(text: &[u8]) -> Option<(EndShape, &[u8])>
 }
 
 fn end_of(text: &[u8]) -> Option<(EndShape, &[u8])>
-    ensures { MatchOption result (end_of (tokens text.now) ≡ None) (λ r. end_of (tokens text.now) ≡ Some (r.0, tokens r.1.now)) }
+    ensures { MatchOption result (end_of (tokens text.now) ≡ None)
+        (λ r. end_of (tokens text.now) ≡ Some (r.0, tokens r.1.now)) }
 {
     if let Some(rest) = after_word(text, b"code") {
         return code_of(rest);
@@ -177,7 +194,7 @@ fn run_line(text: &[u8]) -> Option<LogLine>
     let (name, rest) = next_token(text)?;
     let (k, rest) = next_token(rest)?;
     let name = Name::of(name)?;
-    let k = counted(k)?;
+    let k = capped(k)?;
     let (end, rest) = end_of(rest)?;
     let (counts, rest) = counts_of(rest)?;
     let times = times_of(rest)?;

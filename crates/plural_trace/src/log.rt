@@ -1,8 +1,7 @@
-ghost use Rattle.std.specs.Prelude.{◌≡◌, ◌++◌, ◌∷◌, [], OnOk};
+ghost use Rattle.std.specs.Prelude.{◌≡◌};
 
 use crate::entry::Entry;
 use plural_map::Outcome;
-use std::alloc::AllocFailed;
 use std::marker::Model;
 
 /// The log of a run: the number of its cores, the outcome of each task by its number, and the entries of the
@@ -53,26 +52,5 @@ impl Log {
         ensures { result.now ≡ self.now.entries }
     {
         self.entries.as_slice()
-    }
-
-    /// Gives the log this number of cores.
-    pub fn set_cores(&mut self, cores: u32)
-        ensures { self.new ≡ record self.old { cores = cores } }
-    {
-        self.cores = cores;
-    }
-
-    /// Appends the outcome of the next task.
-    pub fn add_outcome(&mut self, outcome: Outcome) -> Result<(), AllocFailed<Outcome>>
-        ensures { OnOk result (self.new ≡ record self.old { outcomes = self.old.outcomes ++ outcome ∷ [] }) }
-    {
-        self.outcomes.push(outcome)
-    }
-
-    /// Appends an entry.
-    pub fn add_entry(&mut self, entry: Entry) -> Result<(), AllocFailed<Entry>>
-        ensures { OnOk result (self.new ≡ record self.old { entries = self.old.entries ++ entry ∷ [] }) }
-    {
-        self.entries.push(entry)
     }
 }

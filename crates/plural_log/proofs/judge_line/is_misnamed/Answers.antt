@@ -1,7 +1,7 @@
 use Rattle.std.proofs.Common.{◌∙◌, length, eqb, ap}
 use Rattle.plural_log.specs.Numbers.{task_of}
 use Rattle.plural_log.specs.declared.line.LogLine.{LogLine}
-use Rattle.plural_log.proofs.Numbered.{misnamed_by}
+use Rattle.plural_log.proofs.NameNumbers.{misnamed_by}
 use Rattle.plural_log.proofs.judge_line.is_misnamed.Goals as goal
 
 pub returns-in-Run : goal.returns-in-Run

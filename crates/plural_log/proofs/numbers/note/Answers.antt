@@ -1,6 +1,6 @@
 use Rattle.std.proofs.Common.{◌≡◌, sym, ◌∙◌}
 use Rattle.std.proofs.lemmas.Slice.Eq.{bytes_eq-Decides}
-use Rattle.plural_log.proofs.Numbered.{noted_at}
+use Rattle.plural_log.proofs.NameNumbers.{noted_at}
 use Rattle.plural_log.proofs.numbers.note.Goals as goal
 
 pub returns-in_ok-insert-clause-ok : goal.returns-in_ok-insert-clause-ok

@@ -4,7 +4,7 @@ use Rattle.std.proofs.Common.{take}
 use Rattle.plural_map.specs.Value.{TaskValue}
 use Rattle.std.specs.Option.{option_or}
 use Rattle.plural_log.specs.Numbers.{number_for}
-use Rattle.plural_log.proofs.Numbered.{number_more}
+use Rattle.plural_log.proofs.NameNumbers.{number_more}
 use Rattle.plural_log.proofs.numbers.numbers.Goals as goal
 
 pub loop-t-preserved : goal.loop-t-preserved

@@ -1,6 +1,6 @@
 use Rattle.std.proofs.Common.{◌∙◌, append_assoc, take}
 use Rattle.plural_log.specs.Print.{task_texts}
-use Rattle.plural_log.proofs.Printed.{texts_next}
+use Rattle.plural_log.proofs.TaskTexts.{texts_next}
 use Rattle.plural_log.proofs.printing.put_tasks.Goals as goal
 
 pub loop-t-preserved : goal.loop-t-preserved

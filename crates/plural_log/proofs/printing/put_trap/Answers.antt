@@ -3,7 +3,7 @@ use Rattle.std.specs.Prelude.{codes}
 use Rattle.std.specs.Fmt.{decimal}
 use Rattle.std.proofs.lemmas.Result.{on_ok_weaker}
 use Rattle.plural_bytes.specs.Hexadecimal.{hex_text}
-use Rattle.plural_log.proofs.Printed.{four_put}
+use Rattle.plural_log.proofs.TaskTexts.{four_put}
 use Rattle.plural_log.proofs.printing.put_trap.Goals as goal
 
 pub returns : goal.returns

@@ -1,3 +1,4 @@
+use Rattle.plural_log.specs.Spelled.{log_by}
 use Rattle.plural_log.proofs.Reading.{reads_nothing, reads_more, reads_all, line_first, closed_faultless}
 use Rattle.plural_log.proofs.read.read_log.Goals as goal
 
@@ -12,8 +13,9 @@ loop-n-preserved c =
 
 pub returns-clause-answer : goal.returns-clause-answer
 returns-clause-answer c =
-    let all = reads_all c.args.map.now.tasks c.args.lines.now c.loop-n.n c.loop-n.log c.loop-n-test.false c.loop-n.invariant in
-    (closed_faultless c.args.map.now.tasks c.args.lines.now c.args.end c.loop-n.log all (rw c.tasks-tasks.ensures.value at c.if-lines-tasks.false), all.value)
+    let log = log_by c.loop-n.cores c.loop-n.outcomes.items c.loop-n.entries.items in
+    let all = reads_all c.args.map.now.tasks c.args.lines.now c.loop-n.n log c.loop-n-test.false c.loop-n.invariant in
+    (closed_faultless c.args.map.now.tasks c.args.lines.now c.args.end log all (rw c.tasks-tasks.ensures.value at c.if-lines-tasks.false), all.value)
 
 pub loop-n-init : goal.loop-n-init
-loop-n-init c = rw (c.of-log.ensures, c.new.ensures.items, c.new-2.ensures.items) (reads_nothing c.args.map.now.tasks)
+loop-n-init c = rw (c.new-outcomes.ensures.items, c.new-entries.ensures.items) (reads_nothing c.args.map.now.tasks)

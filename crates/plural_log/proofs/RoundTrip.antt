@@ -1,14 +1,14 @@
 -- A printed log is read again.
 use Rattle.std.proofs.Common.{◌≡◌, ℕ, zero, suc, ◌+◌, ◌-◌, ◌<◌, ◌≤◌, true, false, Some, None, List, [], ◌∷◌, ◌++◌, length, refl, ap, sym, subst, ◌∙◌, arith, append_assoc}
-use Rattle.std.specs.Prelude.{bytes_eq, codes, decimal, flat_map, IsTrue}
+use Rattle.std.specs.Prelude.{min, option_map, bytes_eq, codes, decimal, flat_map, IsTrue}
 use Rattle.std.specs.List.{All, list_all}
-use Rattle.std.proofs.lemmas.Bool.{le-leb, lt-leb}
+use Rattle.std.proofs.lemmas.Bool.{le-leb, lt-leb, le-ltb}
 use Rattle.std.proofs.lemmas.List.{append-nil, length_push, length-append}
 use Rattle.std.proofs.lemmas.List.Elements.{All-head, All-tail}
 use Rattle.plural_bytes.specs.Lines.{TextLine, pieces, content_from, content_lines}
 use Rattle.plural_base.specs.Names.{is_name, name_of}
 use Rattle.plural_bytes.specs.Hexadecimal.{hex_text}
-use Rattle.plural_bytes.proofs.Decimals.{counted_back}
+use Rattle.plural_bytes.proofs.Decimals.{numeral_back}
 use Rattle.plural_bytes.proofs.Tokens.{is_token, AreTokens, all_tokens, joined, tokens_joined, line_next, decimal_token, hex_token, name_back, name_token}
 use Rattle.plural_core.specs.declared.end.End.{End}
 use Rattle.plural_core.specs.declared.end.End.TheVariants as ended
@@ -26,12 +26,16 @@ use Rattle.plural_log.specs.declared.line.LogLine.{LogLine}
 use Rattle.plural_log.specs.declared.line.LogLine.TheVariants as line
 use Rattle.plural_trace.specs.Logs.{LogValue}
 use Rattle.plural_log.specs.Print.{task_text, task_texts, end_text, counts_text, times_text, entry_text, log_text}
-use Rattle.plural_log.specs.Shape.{counts_of, times_of, shape, shape_of}
+use Rattle.plural_log.specs.Shape.{capped, counts_of, times_of, shape, shape_of}
 use Rattle.plural_log.specs.Spelled.{end_value, entry_value, nothing, log_of}
-use Rattle.plural_log.specs.Faults.{is_no_end, least_kind}
+use Rattle.plural_log.specs.Faults.{is_large, is_no_end, least_kind}
 use Rattle.plural_trace.specs.Logs.{IsEnd, IsEntry, IsLog}
-use Rattle.plural_log.specs.Laws.{LogAgain}
+use Rattle.plural_log.specs.Laws.{LogRoundTrip}
 use Rattle.plural_log.proofs.Reading.{Reads, reads_nothing, reads_push, none_of_four, closed_reads}
+
+-- A printed number below 2^32 is read as itself.
+capped_back : (n : ℕ) → n < 4294967296 → capped (decimal n) ≡ Some n
+capped_back n small = ap (option_map (λ m. min m 4294967296)) (numeral_back n (omega arith)) ∙ ap Some (let e : min n 4294967296 ≡ n = omega arith in e)
 
 -- ---- one task line
 
@@ -79,10 +83,10 @@ end_tokens ended.Exhausted = codes "spent" ∷ []
 end_shape : End → EndShape
 end_shape ended.Code0 = shape.Code0
 end_shape ended.Code1 = shape.Code1
-end_shape (ended.Trap cause pc) = shape.Trap (Some cause) pc
+end_shape (ended.Trap cause pc) = shape.Trap cause pc
 end_shape ended.Exhausted = shape.Spent
 
--- the tokens behind the end
+-- The tokens after the end.
 abbrev rest_tokens : Entry → List (List ℕ)
 rest_tokens e =
     codes "n" ∷ decimal e.rec.instructions ∷ codes "loads" ∷ decimal e.rec.loads ∷ codes "misses" ∷ decimal e.rec.misses ∷ codes "stores" ∷ decimal e.rec.stores
@@ -143,9 +147,9 @@ entry_all tasks e n h =
 -- the line of an entry
 abbrev run_of : List TaskValue → Entry → LogLine
 run_of tasks e =
-    line.Run (name_at tasks e.rec.t) (Some e.rec.k) (end_shape e.rec.«end»)
-    (record { instructions = Some e.rec.instructions; loads = Some e.rec.loads; misses = Some e.rec.misses; stores = Some e.rec.stores })
-    (record { core = Some e.core; start = Some e.start; end_at = Some e.end_at })
+    line.Run (name_at tasks e.rec.t) e.rec.k (end_shape e.rec.«end»)
+    (record { instructions = e.rec.instructions; loads = e.rec.loads; misses = e.rec.misses; stores = e.rec.stores })
+    (record { core = e.core; start = e.start; end_at = e.end_at })
 
 entry_shape : (tasks : List TaskValue) (e : Entry) → AreNamed tasks → IsEntry (length tasks) e
     → shape_of (joined (codes "run" ∷ name_at tasks e.rec.t ∷ decimal e.rec.k ∷ (end_tokens e.rec.«end» ++ rest_tokens e))) ≡ Some (run_of tasks e)
@@ -156,20 +160,20 @@ entry_shape tasks e n h =
     named : name_of (name_at tasks e.rec.t) ≡ Some (name_at tasks e.rec.t)
     named = name_back (name_at tasks e.rec.t) (named_at tasks e.rec.t n h.t)
 
-    counts : counts_of (rest_tokens e) ≡ Some (record { instructions = Some e.rec.instructions; loads = Some e.rec.loads; misses = Some e.rec.misses; stores = Some e.rec.stores }, codes "core" ∷ decimal e.core ∷ codes "from" ∷ decimal e.start ∷ codes "to" ∷ decimal e.end_at ∷ [])
-    counts = rw (counted_back e.rec.instructions h.instructions, counted_back e.rec.loads h.loads, counted_back e.rec.misses h.misses, counted_back e.rec.stores h.stores) refl
+    counts : counts_of (rest_tokens e) ≡ Some (record { instructions = e.rec.instructions; loads = e.rec.loads; misses = e.rec.misses; stores = e.rec.stores }, codes "core" ∷ decimal e.core ∷ codes "from" ∷ decimal e.start ∷ codes "to" ∷ decimal e.end_at ∷ [])
+    counts = rw (capped_back e.rec.instructions h.instructions, capped_back e.rec.loads h.loads, capped_back e.rec.misses h.misses, capped_back e.rec.stores h.stores) refl
 
-    times : times_of (codes "core" ∷ decimal e.core ∷ codes "from" ∷ decimal e.start ∷ codes "to" ∷ decimal e.end_at ∷ []) ≡ Some (record { core = Some e.core; start = Some e.start; end_at = Some e.end_at })
-    times = rw (counted_back e.core h.core, counted_back e.start h.start, counted_back e.end_at h.end_at) refl
+    times : times_of (codes "core" ∷ decimal e.core ∷ codes "from" ∷ decimal e.start ∷ codes "to" ∷ decimal e.end_at ∷ []) ≡ Some (record { core = e.core; start = e.start; end_at = e.end_at })
+    times = rw (capped_back e.core h.core, capped_back e.start h.start, capped_back e.end_at h.end_at) refl
 
     by : (x : End) → IsEnd x → shape (codes "run" ∷ name_at tasks e.rec.t ∷ decimal e.rec.k ∷ (end_tokens x ++ rest_tokens e))
-        ≡ Some (line.Run (name_at tasks e.rec.t) (Some e.rec.k) (end_shape x)
-        (record { instructions = Some e.rec.instructions; loads = Some e.rec.loads; misses = Some e.rec.misses; stores = Some e.rec.stores })
-        (record { core = Some e.core; start = Some e.start; end_at = Some e.end_at }))
-    by ended.Code0 g = rw (named, counted_back e.rec.k h.k, counts, times) refl
-    by ended.Code1 g = rw (named, counted_back e.rec.k h.k, counts, times) refl
-    by (ended.Trap cause pc) g = rw (named, counted_back e.rec.k h.k, counted_back cause (let a = g.1 in omega arith), word_back pc g.2, counts, times) refl
-    by ended.Exhausted g = rw (named, counted_back e.rec.k h.k, counts, times) refl
+        ≡ Some (line.Run (name_at tasks e.rec.t) e.rec.k (end_shape x)
+        (record { instructions = e.rec.instructions; loads = e.rec.loads; misses = e.rec.misses; stores = e.rec.stores })
+        (record { core = e.core; start = e.start; end_at = e.end_at }))
+    by ended.Code0 g = rw (named, capped_back e.rec.k h.k, counts, times) refl
+    by ended.Code1 g = rw (named, capped_back e.rec.k h.k, counts, times) refl
+    by (ended.Trap cause pc) g = rw (named, capped_back e.rec.k h.k, capped_back cause (let a = g.1 in omega arith), word_back pc g.2, counts, times) refl
+    by ended.Exhausted g = rw (named, capped_back e.rec.k h.k, counts, times) refl
 
 -- ---- the entry that its line spells
 
@@ -189,8 +193,8 @@ end_fine ended.Exhausted h = refl
 
 -- The entry of its line.
 entry_is : (tasks : List TaskValue) (e : Entry) → Differ tasks → e.rec.t < length tasks
-    → entry_value tasks (name_at tasks e.rec.t) (Some e.rec.k) (end_shape e.rec.«end») (record { instructions = Some e.rec.instructions; loads = Some e.rec.loads; misses = Some e.rec.misses; stores = Some e.rec.stores })
-    (record { core = Some e.core; start = Some e.start; end_at = Some e.end_at }) ≡ e
+    → entry_value tasks (name_at tasks e.rec.t) e.rec.k (end_shape e.rec.«end») (record { instructions = e.rec.instructions; loads = e.rec.loads; misses = e.rec.misses; stores = e.rec.stores })
+    (record { core = e.core; start = e.start; end_at = e.end_at }) ≡ e
 entry_is tasks e d l = λ i. record {
   rec = record {
     t = number_at tasks e.rec.t d l i;
@@ -206,9 +210,14 @@ entry_is tasks e d l = λ i. record {
   end_at = e.end_at;
 }
 
-run_fine : (tasks : List TaskValue) (n : ℕ) (log : LogValue) (e : Entry) → IsEntry (length tasks) e → length tasks < n → length log.entries < 65536 → least_kind tasks n log (run_of tasks e) ≡ None
-run_fine tasks n log e h l few =
-    none_of_four _ _ _ _ (lt-leb n (length tasks) l) (rw (end_fine e.rec.«end» h.ended) refl) (rw (has_at tasks e.rec.t h.t) refl) (lt-leb 65536 (length log.entries) few)
+small : (n : ℕ) → n < 4294967296 → is_large n ≡ false
+small n h = le-ltb 4294967295 n (omega arith)
+
+run_fine : (tasks : List TaskValue) (n entries : ℕ) (e : Entry) → IsEntry (length tasks) e → length tasks < n → entries < 65536 → least_kind tasks n entries (run_of tasks e) ≡ None
+run_fine tasks n entries e h l few =
+    none_of_four _ _ _ _ (lt-leb n (length tasks) l)
+    (rw (small e.rec.k h.k, end_fine e.rec.«end» h.ended, small e.rec.instructions h.instructions, small e.rec.loads h.loads, small e.rec.misses h.misses, small e.rec.stores h.stores, small e.core h.core, small e.start h.start, small e.end_at h.end_at) refl)
+    (rw (has_at tasks e.rec.t h.t) refl) (lt-leb 65536 entries few)
 
 -- ---- the entries, from one on
 
@@ -226,7 +235,7 @@ entries_read tasks (e ∷ es) n before log named differ h r l few =
     let rest = flat_map (entry_text tasks) es in
     let next : content_from n (pieces (entry_text tasks e ++ rest)) ≡ (n, text) ∷ content_from (n + 1) (pieces rest) =
     ap (λ t. content_from n (pieces (t ++ rest))) (entry_joined tasks e) ∙ ap (λ t. content_from n (pieces t)) (append_assoc text (10 ∷ []) rest) ∙ line_next n (codes "run") ts rest (entry_all tasks e named own) in
-    let one = reads_push tasks before (n, text) log (run_of tasks e) r (entry_shape tasks e named own) (run_fine tasks (length before) log e own l (omega arith)) in
+    let one = reads_push tasks before (n, text) log (run_of tasks e) r (entry_shape tasks e named own) (run_fine tasks (length before) (length log.entries) e own l (omega arith)) in
     let same = ap (λ x. with_entries log (x ∷ [])) (entry_is tasks e differ own.t) in
     let kept : Reads tasks (before ++ (n, text) ∷ []) (with_entries log (e ∷ [])) = subst (λ (x : LogValue). Reads tasks (before ++ (n, text) ∷ []) x) same one in
     let all = entries_read tasks es (n + 1) (before ++ (n, text) ∷ []) (with_entries log (e ∷ [])) named differ (All-tail (IsEntry (length tasks)) e es h) kept (omega (arith, length_push before (n, text))) (omega (arith, length_push log.entries e)) in
@@ -238,16 +247,16 @@ entries_read tasks (e ∷ es) n before log named differ h r l few =
 abbrev with_outcomes : LogValue → List Outcome → LogValue
 with_outcomes log os = record log { outcomes = log.outcomes ++ os }
 
--- The task behind some is the one at their number.
-name_behind : (pre : List TaskValue) (t : TaskValue) (ts : List TaskValue) → name_at (pre ++ t ∷ ts) (length pre) ≡ t.name
-name_behind [] t ts = refl
-name_behind (x ∷ xs) t ts = name_behind xs t ts
+-- The task after some is the one at their number.
+name_after : (pre : List TaskValue) (t : TaskValue) (ts : List TaskValue) → name_at (pre ++ t ∷ ts) (length pre) ≡ t.name
+name_after [] t ts = refl
+name_after (x ∷ xs) t ts = name_after xs t ts
 
-task_fine : (pre : List TaskValue) (t : TaskValue) (ts : List TaskValue) (o : Outcome) (n : ℕ) (log : LogValue) → n ≡ length pre + 1 → least_kind (pre ++ t ∷ ts) n log (line.Task t.name o) ≡ None
-task_fine pre t ts o n log e =
+task_fine : (pre : List TaskValue) (t : TaskValue) (ts : List TaskValue) (o : Outcome) (n entries : ℕ) → n ≡ length pre + 1 → least_kind (pre ++ t ∷ ts) n entries (line.Task t.name o) ≡ None
+task_fine pre t ts o n entries e =
     let high : n ≤ length (pre ++ t ∷ ts) = omega (arith, e, length-append pre (t ∷ ts)) in
     let place : n - 1 ≡ length pre = omega arith in
-    let same : bytes_eq (name_at (pre ++ t ∷ ts) (n - 1)) t.name ≡ true = ap (λ k. bytes_eq (name_at (pre ++ t ∷ ts) k) t.name) place ∙ ap (λ x. bytes_eq x t.name) (name_behind pre t ts) ∙ same_name t.name in
+    let same : bytes_eq (name_at (pre ++ t ∷ ts) (n - 1)) t.name ≡ true = ap (λ k. bytes_eq (name_at (pre ++ t ∷ ts) k) t.name) place ∙ ap (λ x. bytes_eq x t.name) (name_after pre t ts) ∙ same_name t.name in
     none_of_four _ _ _ _ (rw (le-leb 1 n (omega arith), le-leb n (length (pre ++ t ∷ ts)) high) refl) refl (rw same refl) refl
 
 -- What follows the task lines, for whatever lines stand before.
@@ -268,7 +277,7 @@ tasks_read pre (t ∷ ts) (o ∷ os) n before log last rest named e r l k =
     append_assoc (task_text t o) (task_texts ts os) rest ∙ ap (λ x. x ++ more) (task_joined t o) ∙ append_assoc text (10 ∷ []) more in
     let next : content_from n (pieces (task_texts (t ∷ ts) (o ∷ os) ++ rest)) ≡ (n, text) ∷ content_from (n + 1) (pieces more) =
     ap (λ x. content_from n (pieces x)) whole ∙ line_next n (codes "task") (t.name ∷ outcome_tokens o) more (task_all t o own) in
-    let one = reads_push (pre ++ t ∷ ts) before (n, text) log (line.Task t.name o) r (task_shape t o own) (task_fine pre t ts o (length before) log l) in
+    let one = reads_push (pre ++ t ∷ ts) before (n, text) log (line.Task t.name o) r (task_shape t o own) (task_fine pre t ts o (length before) (length log.entries) l) in
     let lines : before ++ content_from n (pieces (task_texts (t ∷ ts) (o ∷ os) ++ rest)) ≡ (before ++ (n, text) ∷ []) ++ content_from (n + 1) (pieces more) = ap (λ x. before ++ x) next ∙ sym (append_assoc before ((n, text) ∷ []) (content_from (n + 1) (pieces more))) in
     let shift : (pre ++ t ∷ []) ++ ts ≡ pre ++ t ∷ ts = append_assoc pre (t ∷ []) ts in
     let moved : Reads ((pre ++ t ∷ []) ++ ts) (before ++ (n, text) ∷ []) (with_outcomes log (o ∷ [])) = rw shift one in
@@ -283,11 +292,11 @@ tasks_read pre (t ∷ ts) (o ∷ os) n before log last rest named e r l k =
 first_all : (cores : ℕ) → cores ≤ 64 → list_all is_token (codes "log" ∷ codes "1" ∷ codes "cores" ∷ decimal cores ∷ []) ≡ true
 first_all cores h = all_tokens (codes "log" ∷ codes "1" ∷ codes "cores" ∷ decimal cores ∷ []) (refl, (refl, (refl, (decimal_token cores (omega arith), tt))))
 
-first_shape : (cores : ℕ) → cores ≤ 64 → shape_of (joined (codes "log" ∷ codes "1" ∷ codes "cores" ∷ decimal cores ∷ [])) ≡ Some (line.First (Some cores))
+first_shape : (cores : ℕ) → cores ≤ 64 → shape_of (joined (codes "log" ∷ codes "1" ∷ codes "cores" ∷ decimal cores ∷ [])) ≡ Some (line.First cores)
 first_shape cores h =
-    ap shape (tokens_joined (codes "log") (codes "1" ∷ codes "cores" ∷ decimal cores ∷ []) (first_all cores h)) ∙ rw (counted_back cores (omega arith)) refl
+    ap shape (tokens_joined (codes "log") (codes "1" ∷ codes "cores" ∷ decimal cores ∷ []) (first_all cores h)) ∙ rw (capped_back cores (omega arith)) refl
 
-first_fine : (tasks : List TaskValue) (cores : ℕ) → 1 ≤ cores → cores ≤ 64 → least_kind tasks 0 nothing (line.First (Some cores)) ≡ None
+first_fine : (tasks : List TaskValue) (cores : ℕ) → 1 ≤ cores → cores ≤ 64 → least_kind tasks 0 0 (line.First cores) ≡ None
 first_fine tasks cores a b = none_of_four _ _ _ _ refl (rw (le-leb 1 cores a, le-leb cores 64 b) refl) refl refl
 
 whole_read : (m : MapValue) (log : LogValue) → IsMap m → AreNamed m.tasks → IsLog m log → Reads m.tasks (content_lines (log_text m log)) log
@@ -299,7 +308,7 @@ whole_read m log limits named h =
     let whole : log_text m log ≡ text ++ 10 ∷ rest = simp append_assoc refl in
     let next : content_lines (log_text m log) ≡ (1, text) ∷ content_from 2 (pieces rest) =
     ap (λ x. content_from 1 (pieces x)) whole ∙ line_next 1 (codes "log") (codes "1" ∷ codes "cores" ∷ decimal log.cores ∷ []) rest (first_all log.cores h.cores_high) in
-    let one = reads_push tasks [] (1, text) nothing (line.First (Some log.cores)) (reads_nothing tasks) (first_shape log.cores h.cores_high) (first_fine tasks log.cores h.cores_low h.cores_high) in
+    let one = reads_push tasks [] (1, text) nothing (line.First log.cores) (reads_nothing tasks) (first_shape log.cores h.cores_high) (first_fine tasks log.cores h.cores_low h.cores_high) in
     let last : Follows tasks (record { cores = log.cores; outcomes = log.outcomes; entries = [] }) entries log (0 + length tasks + 1) =
     (λ n before r l. entries_read tasks log.entries n before (record { cores = log.cores; outcomes = log.outcomes; entries = [] }) named limits.names_differ h.entries r (omega arith) (omega (arith, h.few))) in
     rw next (tasks_read [] tasks log.outcomes 2 ((1, text) ∷ []) (record { cores = log.cores; outcomes = []; entries = [] }) log entries named h.one_each one (omega arith) last)
@@ -317,7 +326,7 @@ many_lines tasks lines log r h e =
     omega arith
 
 -- Reading a printed log gives the log.
-pub log_again : LogAgain
-log_again m log end limits named h =
+pub log_round_trip : LogRoundTrip
+log_round_trip m log end limits named h =
     let r = whole_read m log limits named h in
     (closed_reads m.tasks (content_lines (log_text m log)) end log r (many_lines m.tasks (content_lines (log_text m log)) log r h.cores_low h.one_each), sym r.value)

@@ -17,10 +17,11 @@ texts_more ts os i d e l n = ap (λ k. task_texts (take k ts) (take k os)) (let 
     more (t ∷ ts) (o ∷ os) zero l n = append-nil (task_text t o)
     more (t ∷ ts) (o ∷ os) (suc i) l n = ap (λ x. task_text t o ++ x) (more ts os i (omega arith) (omega arith)) ∙ sym (append_assoc (task_text t o) (task_texts (take i ts) (take i os)) (task_text (get_or ts i d) (get_or os i e)))
 
+-- The lines of one more task, by the task that was read.
 pub texts_next : (ts : List TaskValue) (os : List Outcome) (i : ℕ) (t : TaskValue) (e : Outcome) → i < length ts → length os ≡ length ts → t ≡ get_or ts i t
     → task_texts (take (i + 1) ts) (take (i + 1) os) ≡ task_texts (take i ts) (take i os) ++ task_text t (get_or os i e)
 texts_next ts os i t e l n same = texts_more ts os i t e l n ∙ ap (λ x. task_texts (take i ts) (take i os) ++ task_text x (get_or os i e)) (sym same)
 
--- Four texts put one behind the other.
+-- Four texts put one after the other.
 pub four_put : (out w x y z a b d e : List ℕ) → a ≡ out ++ w → b ≡ a ++ x → d ≡ b ++ y → e ≡ d ++ z → e ≡ out ++ (w ++ (x ++ (y ++ z)))
 four_put out w x y z a b d e p q r s = s ∙ rw (r, q, p) (simp append_assoc refl)
