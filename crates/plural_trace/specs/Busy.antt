@@ -7,7 +7,7 @@ use Rattle.plural_trace.specs.Rules.{entry_at, is_busy}
 abbrev pub is_busy_at : List Entry → (i : ℕ) → Bool
 is_busy_at es i = is_busy (entry_at es i) (take i es)
 
--- At each ticket below twice the number of entries, if there is an entry of the first m there, it starts at this ticket.
+-- At each ticket below twice the number of entries, if an entry of the first m is there, it starts at this ticket.
 abbrev pub AreStarts : List Entry → (m : ℕ) → (starts : List ℕ) → Type 0
 AreStarts es m starts = (s : ℕ) → s < 2 * length es → slice_index starts s < m
     → (entry_at es (slice_index starts s)).start ≡ s

@@ -74,8 +74,8 @@ abbrev pub is_drawn : ℕ → List Entry → Bool
 is_drawn x [] = false
 is_drawn x (e ∷ es) = (e.start == x) || (e.end_at == x) || is_drawn x es
 
--- 2: the start of entry i isn't below its end, the end isn't below twice the number of entries, or one of its tickets is
--- a ticket of an earlier entry.
+-- 2: the start of entry i isn't below its end, the end isn't below twice the number of entries, or one of its tickets
+-- is a ticket of an earlier entry.
 abbrev pub breaks_tickets : List Entry → (i : ℕ) → Bool
 breaks_tickets es i =
     let e = entry_at es i in
