@@ -1,6 +1,6 @@
 -- The text of an instruction is read as the instruction, shape by shape.
 use Rattle.std.proofs.Common.{◌≡◌, ℕ, ◌+◌, ◌-◌, Bool, true, false, cond, eqb, Some, List, [], ◌∷◌, ◌++◌, length, take, drop, get_or, refl, ap, sym, ◌∙◌, arith, append_assoc, length-append}
-use Rattle.std.specs.Prelude.{ℤ, ◌==◌, option_map, option_and_then}
+use Rattle.std.specs.Prelude.{ℤ, ◌==◌, Ok, option_map, option_and_then}
 use Rattle.std.specs.Option.{option_map_or}
 use Rattle.std.specs.List.{before_first, after_first}
 use Rattle.std.proofs.lemmas.Bool.{and_from, ltb-true, ne_eqb, cond-true, cond-false}
@@ -12,17 +12,18 @@ use Rattle.plural_base.proofs.ListTests.{HasNone, position_at, before_at, after_
 use Rattle.plural_bytes.proofs.PrintedLines.{begins_of, no_front}
 use Rattle.plural_isa.specs.RegisterNames.{named}
 use Rattle.plural_statement.specs.Mnemonics.{mnemonic_text, mnemonic_of}
-use Rattle.plural_statement.specs.Operands.{is_open, one_of, two_of, three_of, unsigned_in, signed_in, halves, indexed}
+use Rattle.plural_statement.specs.Operands.{is_open, one_of, two_of, three_of, unsigned_in, signed_in, formed, halves, indexed}
 use Rattle.plural_statement.specs.Statement.{reg_field, reg_indexed, imm_in, regs_imm, three_regs, target_of, reg_target, regs_target, one_word, statement_at, instruction}
 use Rattle.plural_statement.specs.declared.mnemonics.Mnemonic.{Mnemonic}
 use Rattle.plural_statement.specs.declared.statement.Target.{Target}
 use Rattle.plural_statement.specs.declared.statement.Target.TheVariants.{Offset, Label}
-use Rattle.plural_statement.specs.declared.statement.Statement.TheVariants.{Nothing}
+use Rattle.plural_statement.specs.declared.statement.Statement.TheVariants.{Nothing, Known}
 use Rattle.plural_asm.proofs.Plain.{is_solid, IsOperand, solid_of, plain_of, no_blank, one_operand, two_operands, three_operands}
-use Rattle.plural_asm.proofs.Spelled.{IsSpelled}
+use Rattle.plural_asm.proofs.MnemonicTexts.{IsSpelled}
 
 -- ---- the mnemonic and its operands
 
+-- A mnemonic, a blank and operands are the statement of the mnemonic.
 pub instruction_at : (k : Mnemonic) (o : List ℕ) → IsSpelled k → instruction (mnemonic_text k ++ 32 ∷ o) ≡ statement_at k o
 instruction_at k o s =
     let text = mnemonic_text k ++ 32 ∷ o in
@@ -40,6 +41,7 @@ instruction_at k o s =
 abbrev pub address_text : (z b : List ℕ) → List ℕ
 address_text z b = z ++ 40 ∷ (b ++ 41 ∷ [])
 
+-- An immediate and a register in parentheses are an operand.
 pub address_operand : (z b : List ℕ) → IsOperand z → IsOperand b → IsOperand (address_text z b)
 address_operand z b hz hb = record {
   solid = list_all-append is_solid z (40 ∷ (b ++ 41 ∷ [])) ∙ and_from _ _ hz.solid (list_all-append is_solid b (41 ∷ []) ∙ and_from _ _ hb.solid refl);
@@ -64,35 +66,40 @@ indexed_at z b h = ap indexed (sym (append_assoc z (40 ∷ b) (41 ∷ []))) ∙ 
 
 -- ---- the shapes of operands
 
-pub reg_field_is : (x y : List ℕ) (a n : ℕ) → IsOperand x → IsOperand y → named x ≡ Some a → unsigned_in 1048575 y ≡ Some (Some n) → reg_field (x ++ 44 ∷ 32 ∷ y) ≡ Some (a, Some n)
+-- A register and a field.
+pub reg_field_is : (x y : List ℕ) (a n : ℕ) → IsOperand x → IsOperand y → named x ≡ Some a → unsigned_in 1048575 y ≡ Ok n → reg_field (x ++ 44 ∷ 32 ∷ y) ≡ Some (a, Some n)
 reg_field_is x y a n hx hy r u =
-    ap (λ ts. option_and_then (λ p. option_and_then (λ rd. option_map (λ n. (rd, n)) (unsigned_in 1048575 p.1)) (named p.0)) (two_of ts)) (two_operands x y hx hy)
-    ∙ ap (option_and_then (λ rd. option_map (λ n. (rd, n)) (unsigned_in 1048575 y))) r
-    ∙ ap (option_map (λ n. (a, n))) u
+    ap (λ ts. option_and_then (λ p. option_and_then (λ rd. formed (λ n. (rd, n)) (unsigned_in 1048575 p.1)) (named p.0)) (two_of ts)) (two_operands x y hx hy)
+    ∙ ap (option_and_then (λ rd. formed (λ n. (rd, n)) (unsigned_in 1048575 y))) r
+    ∙ ap (formed (λ n. (a, n))) u
 
+-- A register and a target.
 pub reg_target_is : (x y : List ℕ) (a : ℕ) (t : Target) → IsOperand x → IsOperand y → named x ≡ Some a → target_of y ≡ Some t → reg_target (x ++ 44 ∷ 32 ∷ y) ≡ Some (a, t)
 reg_target_is x y a t hx hy r u =
     ap (λ ts. option_and_then (λ p. option_and_then (λ a. option_map (λ t. (a, t)) (target_of p.1)) (named p.0)) (two_of ts)) (two_operands x y hx hy)
     ∙ ap (option_and_then (λ a. option_map (λ t. (a, t)) (target_of y))) r
     ∙ ap (option_map (λ t. (a, t))) u
 
-pub reg_indexed_is : (x z b : List ℕ) (a c : ℕ) (v : ℤ) → IsOperand x → IsOperand z → IsOperand b → HasNone is_open z → named x ≡ Some a → named b ≡ Some c → signed_in 2048 2047 z ≡ Some (Some v)
+-- A register and an address.
+pub reg_indexed_is : (x z b : List ℕ) (a c : ℕ) (v : ℤ) → IsOperand x → IsOperand z → IsOperand b → HasNone is_open z → named x ≡ Some a → named b ≡ Some c → signed_in 2048 2047 z ≡ Ok v
     → reg_indexed (x ++ 44 ∷ 32 ∷ address_text z b) ≡ Some (a, Some v, c)
 reg_indexed_is x z b a c v hx hz hb none r s u =
-    ap (λ ts. option_and_then (λ p. option_and_then (λ a. option_and_then (λ q. option_and_then (λ b. option_map (λ z. (a, z, b)) (signed_in 2048 2047 q.0)) (named q.1)) (indexed p.1)) (named p.0)) (two_of ts)) (two_operands x (address_text z b) hx (address_operand z b hz hb))
-    ∙ ap (option_and_then (λ a. option_and_then (λ q. option_and_then (λ b. option_map (λ z. (a, z, b)) (signed_in 2048 2047 q.0)) (named q.1)) (indexed (address_text z b)))) r
-    ∙ ap (option_and_then (λ q. option_and_then (λ b. option_map (λ z. (a, z, b)) (signed_in 2048 2047 q.0)) (named q.1))) (indexed_at z b none)
-    ∙ ap (option_and_then (λ b. option_map (λ z. (a, z, b)) (signed_in 2048 2047 z))) s
-    ∙ ap (option_map (λ z. (a, z, c))) u
+    ap (λ ts. option_and_then (λ p. option_and_then (λ a. option_and_then (λ q. option_and_then (λ b. formed (λ z. (a, z, b)) (signed_in 2048 2047 q.0)) (named q.1)) (indexed p.1)) (named p.0)) (two_of ts)) (two_operands x (address_text z b) hx (address_operand z b hz hb))
+    ∙ ap (option_and_then (λ a. option_and_then (λ q. option_and_then (λ b. formed (λ z. (a, z, b)) (signed_in 2048 2047 q.0)) (named q.1)) (indexed (address_text z b)))) r
+    ∙ ap (option_and_then (λ q. option_and_then (λ b. formed (λ z. (a, z, b)) (signed_in 2048 2047 q.0)) (named q.1))) (indexed_at z b none)
+    ∙ ap (option_and_then (λ b. formed (λ z. (a, z, b)) (signed_in 2048 2047 z))) s
+    ∙ ap (formed (λ z. (a, z, c))) u
 
-pub regs_imm_is : (shifts : Bool) (x y z : List ℕ) (a b : ℕ) (v : ℤ) → IsOperand x → IsOperand y → IsOperand z → named x ≡ Some a → named y ≡ Some b → imm_in shifts z ≡ Some (Some v)
+-- Two registers and an immediate.
+pub regs_imm_is : (shifts : Bool) (x y z : List ℕ) (a b : ℕ) (v : ℤ) → IsOperand x → IsOperand y → IsOperand z → named x ≡ Some a → named y ≡ Some b → imm_in shifts z ≡ Ok v
     → regs_imm shifts (x ++ 44 ∷ 32 ∷ (y ++ 44 ∷ 32 ∷ z)) ≡ Some (a, b, Some v)
 regs_imm_is shifts x y z a b v hx hy hz r s u =
-    ap (λ ts. option_and_then (λ p. option_and_then (λ a. option_and_then (λ b. option_map (λ z. (a, b, z)) (imm_in shifts p.2)) (named p.1)) (named p.0)) (three_of ts)) (three_operands x y z hx hy hz)
-    ∙ ap (option_and_then (λ a. option_and_then (λ b. option_map (λ z. (a, b, z)) (imm_in shifts z)) (named y))) r
-    ∙ ap (option_and_then (λ b. option_map (λ z. (a, b, z)) (imm_in shifts z))) s
-    ∙ ap (option_map (λ z. (a, b, z))) u
+    ap (λ ts. option_and_then (λ p. option_and_then (λ a. option_and_then (λ b. formed (λ z. (a, b, z)) (imm_in shifts p.2)) (named p.1)) (named p.0)) (three_of ts)) (three_operands x y z hx hy hz)
+    ∙ ap (option_and_then (λ a. option_and_then (λ b. formed (λ z. (a, b, z)) (imm_in shifts z)) (named y))) r
+    ∙ ap (option_and_then (λ b. formed (λ z. (a, b, z)) (imm_in shifts z))) s
+    ∙ ap (formed (λ z. (a, b, z))) u
 
+-- Three registers.
 pub three_regs_is : (x y z : List ℕ) (a b c : ℕ) → IsOperand x → IsOperand y → IsOperand z → named x ≡ Some a → named y ≡ Some b → named z ≡ Some c → three_regs (x ++ 44 ∷ 32 ∷ (y ++ 44 ∷ 32 ∷ z)) ≡ Some (a, b, c)
 three_regs_is x y z a b c hx hy hz r s u =
     ap (λ ts. option_and_then (λ p. option_and_then (λ a. option_and_then (λ b. option_map (λ c. (a, b, c)) (named p.2)) (named p.1)) (named p.0)) (three_of ts)) (three_operands x y z hx hy hz)
@@ -100,6 +107,7 @@ three_regs_is x y z a b c hx hy hz r s u =
     ∙ ap (option_and_then (λ b. option_map (λ c. (a, b, c)) (named z))) s
     ∙ ap (option_map (λ c. (a, b, c))) u
 
+-- Two registers and a target.
 pub regs_target_is : (x y z : List ℕ) (a b : ℕ) (t : Target) → IsOperand x → IsOperand y → IsOperand z → named x ≡ Some a → named y ≡ Some b → target_of z ≡ Some t
     → regs_target (x ++ 44 ∷ 32 ∷ (y ++ 44 ∷ 32 ∷ z)) ≡ Some (a, b, t)
 regs_target_is x y z a b t hx hy hz r s u =
@@ -108,8 +116,12 @@ regs_target_is x y z a b t hx hy hz r s u =
     ∙ ap (option_and_then (λ b. option_map (λ t. (a, b, t)) (target_of z))) s
     ∙ ap (option_map (λ t. (a, b, t))) u
 
-pub target_is : (y : List ℕ) (z : ℤ) → signed_in 2147483647 2147483647 y ≡ Some (Some z) → target_of y ≡ Some (Offset (Some z))
-target_is y z e = ap (λ o. option_map_or (λ z. Some (Offset z)) o (option_map (λ n. Label n) (name_of y))) e
+-- A number is a target.
+pub target_is : (y : List ℕ) (z : ℤ) → signed_in 2147483647 2147483647 y ≡ Ok z → target_of y ≡ Some (Offset (Some z))
+target_is y z e = ap (λ r. option_map_or (λ u. Some u) (formed (λ z. Offset z) r) (option_map (λ n. Label n) (name_of y))) e
 
-pub one_word_is : (x : List ℕ) (w : ℕ) → IsOperand x → unsigned_in 4294967295 x ≡ Some (Some w) → one_word x ≡ Some (Some w)
-one_word_is x w h u = ap (λ ts. option_and_then (λ a. unsigned_in 4294967295 a) (one_of ts)) (one_operand x h) ∙ u
+-- A word.
+pub one_word_is : (x : List ℕ) (w : ℕ) → IsOperand x → unsigned_in 4294967295 x ≡ Ok w → one_word x ≡ Some (Known (Some w))
+one_word_is x w h u =
+    ap (λ ts. option_and_then (λ a. formed (λ n. Known n) (unsigned_in 4294967295 a)) (one_of ts)) (one_operand x h)
+    ∙ ap (formed (λ n. Known n)) u

@@ -1,6 +1,6 @@
 -- The text of a word is a line that says the word.
 use Rattle.std.proofs.Common.{◌≡◌, ℕ, ◌%◌, ◌^◌, ◌<◌, Bool, true, false, eqb, Option, Some, None, List, [], ◌∷◌, ◌++◌, length, refl, ap, sym, ◌∙◌, arith, append_assoc, inl, inr}
-use Rattle.std.specs.Prelude.{ℤ, pos, negsuc, neg_ℤ, ◌≤ℤ◌, ◌<ℤ◌, codes, decimal, is_none, option_map}
+use Rattle.std.specs.Prelude.{ℤ, pos, negsuc, neg_ℤ, ◌≤ℤ◌, ◌<ℤ◌, codes, decimal, is_none, option_map, Ok}
 use Rattle.std.specs.List.{list_all}
 use Rattle.std.specs.Fmt.{signed_decimal}
 use Rattle.std.proofs.lemmas.Int.{ints}
@@ -9,17 +9,18 @@ use Rattle.plural_bytes.specs.Hexadecimal.{hex_text}
 use Rattle.plural_base.proofs.ListTests.{HasNone, none_pass}
 use Rattle.plural_isa.specs.RegisterNames.{plain_name}
 use Rattle.plural_isa.specs.Decoding.{decoded}
-use Rattle.plural_isa.specs.Encoding.{word_of, is_shift, IsWithin, IsOffset, IsAmount, Fits, HasRegisters}
+use Rattle.plural_isa.specs.Table.{is_shift}
+use Rattle.plural_isa.specs.Encoding.{word_of, IsWithin, IsOffset, IsAmount, Fits, HasRegisters}
 use Rattle.plural_isa.specs.declared.instr.BranchOp.{BranchOp}
 use Rattle.plural_isa.specs.declared.instr.ImmOp.{ImmOp}
 use Rattle.plural_isa.specs.declared.instr.RegOp.{RegOp}
 use Rattle.plural_isa.specs.declared.instr.Instr.{Instr}
 use Rattle.plural_isa.specs.declared.instr.Instr.TheVariants as instr
-use Rattle.plural_isa.proofs.Fitting.{decodes_fit}
-use Rattle.plural_isa.proofs.RoundTrip.{encodes_again}
+use Rattle.plural_isa.proofs.DecodedRanges.{decodes_fit}
+use Rattle.plural_isa.proofs.WordRoundTrip.{word_round_trip}
 use Rattle.plural_statement.specs.Mnemonics.{mnemonic_text}
 use Rattle.plural_statement.specs.Operands.{is_open}
-use Rattle.plural_statement.specs.Statement.{with_imm, with_field, reg_field, reg_indexed, imm_in, target_of, statement_at, instruction}
+use Rattle.plural_statement.specs.Statement.{fence_word, with_imm, with_field, reg_field, reg_indexed, imm_in, target_of, statement_at, instruction}
 use Rattle.plural_asm.specs.Labels.{words_in}
 use Rattle.plural_asm.specs.Words.{reaches, offset_in, jump_word, branch_word, target_offset, words_at}
 use Rattle.plural_asm.specs.Rules.{is_out_of_range, is_unknown, is_far}
@@ -32,9 +33,9 @@ use Rattle.plural_statement.specs.declared.statement.Statement.TheVariants.{Know
 use Rattle.plural_asm.specs.declared.offset.Offset.TheVariants.{At}
 use Rattle.plural_asm.proofs.Plain.{is_word, IsOperand, word_no_open, solid_of}
 use Rattle.plural_asm.proofs.Decimals.{IsBetween, signed_words, signed_some, unsigned_back, signed_back, hex_words, word_back}
-use Rattle.plural_asm.proofs.Lined.{IsUnlabelled, IsTail, last_tail, more_tail, word_line, tail_line}
-use Rattle.plural_asm.proofs.Spelled as spelled
-use Rattle.plural_asm.proofs.Spelled.{IsSpelled, named_back, name_operand}
+use Rattle.plural_asm.proofs.UnlabelledLines.{IsUnlabelled, IsTail, last_tail, more_tail, word_line, tail_line}
+use Rattle.plural_asm.proofs.MnemonicTexts as spelled
+use Rattle.plural_asm.proofs.MnemonicTexts.{IsSpelled, named_back, name_operand}
 use Rattle.plural_asm.proofs.Shapes.{instruction_at, address_text, address_operand, reg_field_is, reg_target_is, reg_indexed_is, regs_imm_is, three_regs_is, regs_target_is, target_is, one_word_is}
 
 -- ---- what an instruction says
@@ -127,7 +128,7 @@ amount_between : (z : ℤ) → IsAmount true z → IsBetween 0 31 z
 amount_between (pos n) h = (omega (arith, ints), omega (arith, ints))
 amount_between (negsuc n) h = absurd (omega (arith, ints))
 
-amount_back : (shifts : Bool) (z : ℤ) → IsAmount shifts z → imm_in shifts (signed_decimal z) ≡ Some (Some z)
+amount_back : (shifts : Bool) (z : ℤ) → IsAmount shifts z → imm_in shifts (signed_decimal z) ≡ Ok z
 amount_back true z h = signed_back 0 31 z (amount_between z h)
 amount_back false z h = signed_back 2048 2047 z (imm_between z h)
 
@@ -222,14 +223,14 @@ spells_data : (w : ℕ) → w < 2 ^ 32 → Spells w (data_text w)
 spells_data w l =
     let x = codes "0x" ++ hex_text 8 w in
     let h = data_operand w in
-    spells_tail w m.Word x (data_text w) (Known (Some w)) spelled.spelled_word (last_tail x h) refl (ap (option_map (λ n. Known n)) (one_word_is x w h (word_back w l))) (says_known w w refl)
+    spells_tail w m.Word x (data_text w) (Known (Some w)) spelled.spelled_word (last_tail x h) refl (one_word_is x w h (word_back w l)) (says_known w w refl)
 
 spells_bare : (w v : ℕ) (text : List ℕ) → list_all is_word text ≡ true → 0 < length text → instruction text ≡ Some (Known (Some v)) → v ≡ w → Spells w text
 spells_bare w v text h l is e = record { line = word_line text h l; statement = Some (Known (Some v)); is = is; says = says_known w v e }
 
 spells_fence : (w fields : ℕ) → w < 2 ^ 32 → Spells w (instr_text w (instr.Fence fields))
-spells_fence w fields l = elim (cases_Bool (eqb w 0x0ff0000f)) [
-  | inl t ↦ rw (cond-true _ (mnemonic_text m.Fence) (data_text w) t) (spells_bare w 0x0ff0000f (mnemonic_text m.Fence) refl (omega arith) refl (sym (eqb-true w 0x0ff0000f t)))
+spells_fence w fields l = elim (cases_Bool (eqb w fence_word)) [
+  | inl t ↦ rw (cond-true _ (mnemonic_text m.Fence) (data_text w) t) (spells_bare w fence_word (mnemonic_text m.Fence) refl (omega arith) refl (sym (eqb-true w fence_word t)))
   | inr f ↦ rw (cond-false _ (mnemonic_text m.Fence) (data_text w) f) (spells_data w l)
 ]
 
@@ -251,7 +252,7 @@ spells_instr w instr.Ebreak l r f e = spells_bare w 0x00100073 (mnemonic_text m.
 
 spells_from : (w : ℕ) (o : Option Instr) → w < 2 ^ 32 → decoded w ≡ o → Spells w (text_from w o)
 spells_from w None l e = spells_data w l
-spells_from w (Some i) l e = let fit = decodes_fit w i l e in spells_instr w i l fit.0 fit.1 (encodes_again w i l e)
+spells_from w (Some i) l e = let fit = decodes_fit w i l e in spells_instr w i l fit.0 fit.1 (word_round_trip w i l e)
 
 -- the text of a word is a line that makes the word
 pub spells : (w : ℕ) → w < 2 ^ 32 → Spells w (word_text w)

@@ -14,7 +14,7 @@ use Rattle.plural_asm.specs.declared.object.AsmKind.{AsmKind}
 use Rattle.plural_asm.specs.declared.object.AsmKind.TheVariants as kinds
 use Rattle.plural_sections.specs.declared.line_error.LineError.{LineError}
 
--- an instruction's number is out of its range
+-- An instruction's number is out of its range.
 abbrev pub is_out_of_range : Option Statement → Bool
 is_out_of_range None = false
 is_out_of_range (Some Nothing) = false
@@ -23,34 +23,36 @@ is_out_of_range (Some (Li rd v)) = is_none v
 is_out_of_range (Some (Jump rd t)) = false
 is_out_of_range (Some (Branch op rs1 rs2 t)) = false
 
--- the label stands on an earlier line
+-- The label stands on an earlier line.
 abbrev pub is_defined : (List ℕ → Option ℕ) → Option (List ℕ) → Bool
 is_defined earlier None = false
 is_defined earlier (Some name) = is_some (earlier name)
 
--- a target's name is no label
+-- A target's name is no label.
 abbrev pub is_unknown : Option Offset → Bool
 is_unknown None = false
 is_unknown (Some Unknown) = true
 is_unknown (Some Far) = false
 is_unknown (Some (At z)) = false
 
--- a target's offset is out of its range, or odd
+-- A target's offset is out of its range, or odd.
 abbrev pub is_far : Option Offset → Bool
 is_far None = false
 is_far (Some Unknown) = false
 is_far (Some Far) = true
 is_far (Some (At z)) = false
 
--- the table of kinds, for a line behind so many words and labels, with the earlier labels and the offset of
--- its target
+-- The table of kinds, for a line after so many words and labels, with the earlier labels and the offset of
+-- its target.
 abbrev pub HasKind : (List ℕ → Option ℕ) → (here labels : ℕ) → KernelLine → Option Offset → AsmKind → Type 0
 HasKind earlier here labels line offset kinds.Form = is_none line.statement ≡ true
 HasKind earlier here labels line offset kinds.Number = is_out_of_range line.statement ≡ true
 HasKind earlier here labels line offset kinds.Name = (is_defined earlier line.label || is_unknown offset) ≡ true
-HasKind earlier here labels line offset kinds.Count = (nat_lt 16384 (here + words_in line.statement) || (is_some line.label && nat_le 16384 labels)) ≡ true
+HasKind earlier here labels line offset kinds.Count =
+    (nat_lt 16384 (here + words_in line.statement) || (is_some line.label && nat_le 16384 labels)) ≡ true
 HasKind earlier here labels line offset kinds.Reach = is_far offset ≡ true
 
+-- The place of a kind in the table, the least first.
 abbrev pub rank : AsmKind → ℕ
 rank kinds.Form = 1
 rank kinds.Number = 2
@@ -58,15 +60,19 @@ rank kinds.Name = 3
 rank kinds.Count = 4
 rank kinds.Reach = 5
 
--- a line of all the lines has a fault of a kind, behind the lines before it
+-- A line of all the lines has a fault of a kind, after the lines before it.
 abbrev pub Breaks : List TextLine → List TextLine → List ℕ → AsmKind → Type 0
-Breaks all before text kind = HasKind (λ q. place_of before q) (place_after before) (length (labels_of before)) (line_of text) (target_offset (λ q. place_of all q) (place_after before) (line_of text).statement) kind
+Breaks all before text kind =
+    HasKind (λ q. place_of before q) (place_after before) (length (labels_of before)) (line_of text)
+    (target_offset (λ q. place_of all q) (place_after before) (line_of text).statement) kind
 
--- the least kind of a line, or none
+-- The least kind of a line, or none.
 abbrev pub IsVerdict : (List ℕ → Option ℕ) → (here labels : ℕ) → KernelLine → Option Offset → Option AsmKind → Type 0
 IsVerdict earlier here labels line offset r =
-    MatchOption r ((k : AsmKind) → HasKind earlier here labels line offset k → ⊥) (λ kind. HasKind earlier here labels line offset kind × ((k : AsmKind) → HasKind earlier here labels line offset k → rank kind ≤ rank k))
+    MatchOption r ((k : AsmKind) → HasKind earlier here labels line offset k → ⊥)
+    (λ kind. HasKind earlier here labels line offset kind
+    × ((k : AsmKind) → HasKind earlier here labels line offset k → rank kind ≤ rank k))
 
--- the first faulty line and its least kind, or want of memory
+-- The first faulty line and its least kind, or that memory ran out.
 abbrev pub Faults : List TextLine → LineError AsmKind → Type 0
 Faults lines error = Tells rank (Breaks lines) lines error

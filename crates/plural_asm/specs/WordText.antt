@@ -7,34 +7,36 @@ use Rattle.plural_isa.specs.RegisterNames.{plain_name}
 use Rattle.plural_isa.specs.declared.instr.Instr.{Instr}
 use Rattle.plural_isa.specs.declared.instr.Instr.TheVariants as instr
 use Rattle.plural_statement.specs.Mnemonics.{mnemonic_text}
+use Rattle.plural_statement.specs.Statement.{fence_word}
 use Rattle.plural_statement.specs.declared.mnemonics.Mnemonic.{Mnemonic}
 use Rattle.plural_statement.specs.declared.mnemonics.Mnemonic.TheVariants as m
 
--- a mnemonic and the blank before its first operand
+-- A mnemonic and the blank before its first operand.
 abbrev pub head_text : Mnemonic → List ℕ
 head_text k = mnemonic_text k ++ 32 ∷ []
 
--- `m a, z`
+-- `m a, z`.
 abbrev pub reg_number_text : Mnemonic → ℕ → ℤ → List ℕ
 reg_number_text k a z = ((head_text k ++ plain_name a) ++ codes ", ") ++ signed_decimal z
 
--- `m a, z(b)`
+-- `m a, z(b)`.
 abbrev pub reg_address_text : Mnemonic → ℕ → ℤ → ℕ → List ℕ
 reg_address_text k a z b = ((reg_number_text k a z ++ codes "(") ++ plain_name b) ++ codes ")"
 
--- `m a, b, z`
+-- `m a, b, z`.
 abbrev pub regs_number_text : Mnemonic → (a b : ℕ) → ℤ → List ℕ
-regs_number_text k a b z = ((((head_text k ++ plain_name a) ++ codes ", ") ++ plain_name b) ++ codes ", ") ++ signed_decimal z
+regs_number_text k a b z =
+    ((((head_text k ++ plain_name a) ++ codes ", ") ++ plain_name b) ++ codes ", ") ++ signed_decimal z
 
--- `m a, b, c`
+-- `m a, b, c`.
 abbrev pub regs_text : Mnemonic → (a b c : ℕ) → List ℕ
 regs_text k a b c = ((((head_text k ++ plain_name a) ++ codes ", ") ++ plain_name b) ++ codes ", ") ++ plain_name c
 
--- `.word 0x` and eight digits
+-- `.word 0x` and eight digits.
 abbrev pub data_text : ℕ → List ℕ
 data_text w = codes ".word 0x" ++ hex_text 8 w
 
--- the text of a word's instruction; a fence other than `fence` is data
+-- The text of a word's instruction; a fence other than `fence` is data.
 abbrev pub instr_text : ℕ → Instr → List ℕ
 instr_text w (instr.Lui rd imm) = reg_number_text m.Lui rd (pos imm)
 instr_text w (instr.Auipc rd imm) = reg_number_text m.Auipc rd (pos imm)
@@ -45,14 +47,15 @@ instr_text w (instr.Load op rd rs1 imm) = reg_address_text (m.Load op) rd imm rs
 instr_text w (instr.Store op rs1 rs2 imm) = reg_address_text (m.Store op) rs2 imm rs1
 instr_text w (instr.OpImm op rd rs1 imm) = regs_number_text (m.Imm op) rd rs1 imm
 instr_text w (instr.Op op rd rs1 rs2) = regs_text (m.Reg op) rd rs1 rs2
-instr_text w (instr.Fence fields) = if w == 0x0ff0000f then mnemonic_text m.Fence else data_text w
+instr_text w (instr.Fence fields) = if w == fence_word then mnemonic_text m.Fence else data_text w
 instr_text w instr.Ecall = mnemonic_text m.Ecall
 instr_text w instr.Ebreak = mnemonic_text m.Ebreak
 
+-- The text of a word by its instruction, if it has one.
 abbrev pub text_from : ℕ → Option Instr → List ℕ
 text_from w None = data_text w
 text_from w (Some i) = instr_text w i
 
--- the text of a word
+-- The text of a word.
 abbrev pub word_text : ℕ → List ℕ
 word_text w = text_from w (decoded w)

@@ -1,6 +1,6 @@
 //! Assembling kernel lines.
 
-ghost use Rattle.std.specs.Prelude.{◌≡◌, ◌≤◌, ◌*◌, ℕ, List, length, IfOk, MatchResult};
+ghost use Rattle.std.specs.Prelude.{◌≡◌, ◌≤◌, length, IfOk, MatchResult};
 ghost use Rattle.plural_bytes.specs.Spelled.{text_lines};
 ghost use Rattle.plural_sections.specs.Faults.{IsFaultless};
 ghost use Rattle.plural_asm.specs.Words.{code_of, labels_of};
@@ -27,9 +27,10 @@ fn coded(alloc: Global, words: Vec<u32>) -> Result<Code, Memory>
 
 /// The code and the labels of kernel lines, or their first fault.
 pub fn assemble(alloc: Global, lines: &[Line<'_>]) -> Result<Object, AsmError>
-    requires { length lines.now ≤ 67108864 }
     ensures { MatchResult result
-        (λ o. IsFaultless (Breaks (text_lines lines.now)) (text_lines lines.now) × (o.0 ≡ code_of (text_lines lines.now) (text_lines lines.now)) × (o.1 ≡ labels_of (text_lines lines.now)))
+        (λ o. IsFaultless (Breaks (text_lines lines.now)) (text_lines lines.now)
+        × (o.0 ≡ code_of (text_lines lines.now) (text_lines lines.now))
+        × (o.1 ≡ labels_of (text_lines lines.now)))
         (λ e. Faults (text_lines lines.now) e) }
 {
     let all = places(alloc, lines)?;
@@ -47,7 +48,7 @@ pub fn assemble(alloc: Global, lines: &[Line<'_>]) -> Result<Object, AsmError>
                     kind,
                 });
             }
-            None => note_label(&mut earlier, kernel.label, here)?,
+            None => note_label(&mut earlier, kernel.label, u64::from(here))?,
         }
         put_label(&mut labels, here, kernel.label)?;
         put_words(&mut words, &all, here, kernel.statement)?;

@@ -9,11 +9,8 @@ ghost use Rattle.plural_asm.specs.WordText.{head_text, reg_number_text, reg_addr
 
 use plural_bytes::{Memory, hex, put};
 use plural_isa::{Instr, Reg, decode, reg_name};
-use plural_statement::{Mnemonic, mnemonic_text};
+use plural_statement::{FENCE, Mnemonic, mnemonic_text};
 use std::alloc::Global;
-
-/// The word of `fence`.
-const FENCE: u32 = 0x0ff0_000f;
 
 fn put_mnemonic(out: &mut Vec<u8>, mnemonic: Mnemonic) -> Result<(), Memory>
     ensures { OnOk result (out.new.items ≡ out.old.items ++ mnemonic_text mnemonic) }
@@ -74,7 +71,8 @@ fn put_reg_address(
 }
 
 fn put_two_regs(out: &mut Vec<u8>, mnemonic: Mnemonic, a: Reg, b: Reg) -> Result<(), Memory>
-    ensures { OnOk result (out.new.items ≡ out.old.items ++ ((((head_text mnemonic ++ plain_name a) ++ codes ", ") ++ plain_name b) ++ codes ", ")) }
+    ensures { OnOk result (out.new.items
+        ≡ out.old.items ++ ((((head_text mnemonic ++ plain_name a) ++ codes ", ") ++ plain_name b) ++ codes ", ")) }
 {
     put_head(out, mnemonic)?;
     put_reg(out, a)?;

@@ -1,6 +1,6 @@
 //! The names that lines have as labels.
 
-ghost use Rattle.std.specs.Prelude.{◌≡◌, ◌≤◌, ◌<◌, ℕ, IfOk};
+ghost use Rattle.std.specs.Prelude.{◌≡◌, IfOk};
 ghost use Rattle.plural_bytes.specs.Spelled.{text_lines};
 ghost use Rattle.plural_asm.specs.Labels.{names_of};
 
@@ -8,7 +8,7 @@ use plural_bytes::{Line, Memory, Name};
 use plural_statement::label_of;
 use std::alloc::Global;
 
-/// The names at the label positions of lines, in order, repeats included: a line has one where it
+/// The names at the label positions of lines, in order, repeats included: a line has one if it
 /// begins with a name directly followed by a colon.
 pub fn names(alloc: Global, lines: &[Line<'_>]) -> Result<Vec<Name>, Memory>
     ensures { IfOk result (λ v. v.items ≡ names_of (text_lines lines.now)) }

@@ -1,10 +1,9 @@
 //! The offset of a target from a place.
 
-ghost use Rattle.std.specs.Prelude.{◌≡◌, ◌≤◌, ◌%◌, ℕ, Some, None, List};
+ghost use Rattle.std.specs.Prelude.{◌≡◌, ◌≤◌, ◌*◌, ◌%◌, None, pos, neg_ℤ, ◌-ℤ◌};
 ghost use Rattle.std.specs.BTreeMap.{get_by};
 ghost use Rattle.std.specs.Cmp.Lexicographic.{slice_cmp};
 ghost use Rattle.std.specs.Ordering.{nat_cmp};
-ghost use Rattle.plural_isa.specs.Encoding.{IsOffset};
 ghost use Rattle.plural_statement.specs.declared.statement.Target.TheVariants as target;
 ghost use Rattle.plural_asm.specs.Words.{is_near, reaches, offset_in, offset_at, IsReached, target_offset};
 
@@ -59,7 +58,7 @@ fn offset_in(bytes: i64, half: u32) -> Offset
     }
 }
 
-fn place_at(places: &BTreeMap<Name, u32>, name: Name) -> Option<u32>
+fn place_at(places: &BTreeMap<Name, u64>, name: Name) -> Option<u64>
     ensures { result ≡ get_by (λ k. slice_cmp nat_cmp name k) places.now }
 {
     places.get(&name).copied()
@@ -77,22 +76,66 @@ fn numeral_offset(bytes: Option<i32>, half: u32) -> Offset
     }
 }
 
-fn label_offset(places: &BTreeMap<Name, u32>, here: u32, half: u32, name: Name) -> Offset
+/// The offset of a place that is `words` after the instruction.
+fn ahead(words: u64, half: u32) -> Offset
     requires even { half % 2 ≡ 0 }
     requires half { half ≤ 1048576 }
-    ensures value { result ≡ offset_at (λ q. get_by (λ k. slice_cmp nat_cmp q k) places.now) here half (target.Label name) }
+    ensures value { result ≡ offset_in half (pos (4 * words)) }
+    ensures reached { IsReached half result }
+{
+    if words < 1_048_576 {
+        offset_in(4 * words as i64, half)
+    } else {
+        Offset::Far
+    }
+}
+
+/// The offset of a place that is `words` before the instruction.
+fn back(words: u64, half: u32) -> Offset
+    requires even { half % 2 ≡ 0 }
+    requires half { half ≤ 1048576 }
+    ensures value { result ≡ offset_in half (neg_ℤ (pos (4 * words))) }
+    ensures reached { IsReached half result }
+{
+    if words < 1_048_576 {
+        offset_in(-(4 * words as i64), half)
+    } else {
+        Offset::Far
+    }
+}
+
+/// The offset of a place from the place `here`, both in words.
+fn distance(place: u64, here: u32, half: u32) -> Offset
+    requires even { half % 2 ≡ 0 }
+    requires half { half ≤ 1048576 }
+    ensures value { result ≡ offset_in half (pos (4 * place) -ℤ pos (4 * here)) }
+    ensures reached { IsReached half result }
+{
+    let here = u64::from(here);
+    if here <= place {
+        ahead(place - here, half)
+    } else {
+        back(here - place, half)
+    }
+}
+
+fn label_offset(places: &BTreeMap<Name, u64>, here: u32, half: u32, name: Name) -> Offset
+    requires even { half % 2 ≡ 0 }
+    requires half { half ≤ 1048576 }
+    ensures value { result
+        ≡ offset_at (λ q. get_by (λ k. slice_cmp nat_cmp q k) places.now) here half (target.Label name) }
     ensures reached { IsReached half result }
 {
     match place_at(places, name) {
         None => Offset::Unknown,
-        Some(place) => offset_in(4 * i64::from(place) - 4 * i64::from(here), half),
+        Some(place) => distance(place, here, half),
     }
 }
 
 /// The offset of a target from the place `here`, in words, for an instruction that reaches from
 /// `-half` to `half - 1` bytes.
 pub(crate) fn offset_at(
-    places: &BTreeMap<Name, u32>,
+    places: &BTreeMap<Name, u64>,
     here: u32,
     half: u32,
     target: Target,
@@ -110,7 +153,7 @@ pub(crate) fn offset_at(
 
 /// The offset of an instruction's target, if it has a target.
 pub(crate) fn target_offset(
-    places: &BTreeMap<Name, u32>,
+    places: &BTreeMap<Name, u64>,
     here: u32,
     statement: Option<Statement>,
 ) -> Option<Offset>

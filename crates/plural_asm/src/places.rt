@@ -1,6 +1,6 @@
 //! How many words lines make, and the first places of their labels.
 
-ghost use Rattle.std.specs.Prelude.{◌≡◌, ◌≤◌, ◌||◌, ◌%◌, ◌==◌, ℕ, List, length, IfOk, bytes_eq, nat_lt, nat_le};
+ghost use Rattle.std.specs.Prelude.{◌≡◌, ◌≤◌, ℕ, List, IfOk, bytes_eq};
 ghost use Rattle.std.specs.BTreeMap.{get_by};
 ghost use Rattle.std.specs.Cmp.Lexicographic.{slice_cmp};
 ghost use Rattle.std.specs.Ordering.{nat_cmp};
@@ -47,9 +47,10 @@ pub(crate) fn words_in(statement: Option<Statement>) -> u32
     }
 }
 
-/// Notes a label's place, where it has none yet.
-fn note(places: &mut BTreeMap<Name, u32>, name: Name, place: u32) -> Result<(), Memory>
-    ensures { IfOk result (λ _. (q : List ℕ) → get_by (λ k. slice_cmp nat_cmp q k) places.new ≡ noted (get_by (λ k. slice_cmp nat_cmp q k) places.old) (bytes_eq name q) place) }
+/// Notes a label's place, if it has none yet.
+fn note(places: &mut BTreeMap<Name, u64>, name: Name, place: u64) -> Result<(), Memory>
+    ensures { IfOk result (λ _. (q : List ℕ) → get_by (λ k. slice_cmp nat_cmp q k) places.new
+        ≡ noted (get_by (λ k. slice_cmp nat_cmp q k) places.old) (bytes_eq name q) place) }
 {
     if !places.contains_key(&name) {
         places.insert(name, place)?;
@@ -59,11 +60,12 @@ fn note(places: &mut BTreeMap<Name, u32>, name: Name, place: u32) -> Result<(), 
 
 /// Notes the label of a line, if it has one.
 pub(crate) fn note_label(
-    places: &mut BTreeMap<Name, u32>,
+    places: &mut BTreeMap<Name, u64>,
     label: Option<Name>,
-    place: u32,
+    place: u64,
 ) -> Result<(), Memory>
-    ensures { IfOk result (λ _. (q : List ℕ) → get_by (λ k. slice_cmp nat_cmp q k) places.new ≡ noted (get_by (λ k. slice_cmp nat_cmp q k) places.old) (is_option label q) place) }
+    ensures { IfOk result (λ _. (q : List ℕ) → get_by (λ k. slice_cmp nat_cmp q k) places.new
+        ≡ noted (get_by (λ k. slice_cmp nat_cmp q k) places.old) (is_option label q) place) }
 {
     match label {
         Some(name) => note(places, name, place),
@@ -72,16 +74,16 @@ pub(crate) fn note_label(
 }
 
 /// The first place of each label, in words.
-pub(crate) fn places(alloc: Global, lines: &[Line<'_>]) -> Result<BTreeMap<Name, u32>, Memory>
-    requires { length lines.now ≤ 67108864 }
-    ensures { IfOk result (λ m. (q : List ℕ) → get_by (λ k. slice_cmp nat_cmp q k) m ≡ place_of (text_lines lines.now) q) }
+pub(crate) fn places(alloc: Global, lines: &[Line<'_>]) -> Result<BTreeMap<Name, u64>, Memory>
+    ensures { IfOk result (λ m. (q : List ℕ) → get_by (λ k. slice_cmp nat_cmp q k) m
+        ≡ place_of (text_lines lines.now) q) }
 {
     let mut places = BTreeMap::new(alloc);
-    let mut place: u32 = 0;
+    let mut place: u64 = 0;
     for line in lines {
         let kernel = line_of(line.text);
         note_label(&mut places, kernel.label, place)?;
-        place += words_in(kernel.statement);
+        place += u64::from(words_in(kernel.statement));
     }
     Ok(places)
 }

@@ -1,6 +1,6 @@
 //! The least kind of fault that a line has.
 
-ghost use Rattle.std.specs.Prelude.{◌≡◌, ◌≤◌, ℕ, List};
+ghost use Rattle.std.specs.Prelude.{◌≡◌};
 ghost use Rattle.std.specs.BTreeMap.{get_by};
 ghost use Rattle.std.specs.Cmp.Lexicographic.{slice_cmp};
 ghost use Rattle.std.specs.Ordering.{nat_cmp};
@@ -23,7 +23,7 @@ fn is_out_of_range(statement: Option<Statement>) -> bool
     }
 }
 
-fn is_defined(earlier: &BTreeMap<Name, u32>, label: Option<Name>) -> bool
+fn is_defined(earlier: &BTreeMap<Name, u64>, label: Option<Name>) -> bool
     ensures { result ≡ is_defined (λ q. get_by (λ k. slice_cmp nat_cmp q k) earlier.now) label }
 {
     match label {
@@ -44,10 +44,10 @@ fn is_far(offset: Option<Offset>) -> bool
     matches!(offset, Some(Offset::Far))
 }
 
-/// The least kind of fault of a line behind so many words and labels, with the labels of the earlier
+/// The least kind of fault of a line after so many words and labels, with the labels of the earlier
 /// lines and the offset of its target.
 pub(crate) fn verdict(
-    earlier: &BTreeMap<Name, u32>,
+    earlier: &BTreeMap<Name, u64>,
     here: u32,
     labels: usize,
     line: &KernelLine,

@@ -1,10 +1,9 @@
 //! The words of an instruction at a place.
 
-ghost use Rattle.std.specs.Prelude.{◌≡◌, ◌≤◌, ◌<◌, ◌++◌, ◌*◌, ◌%◌, ℕ, List, [], ◌∷◌, Some, None, unwrap_or, OnOk};
+ghost use Rattle.std.specs.Prelude.{◌≡◌, ◌≤◌, ◌<◌, ◌++◌, [], ◌∷◌, Some, None, unwrap_or, OnOk};
 ghost use Rattle.std.specs.BTreeMap.{get_by};
 ghost use Rattle.std.specs.Cmp.Lexicographic.{slice_cmp};
 ghost use Rattle.std.specs.Ordering.{nat_cmp};
-ghost use Rattle.plural_isa.specs.Fields.{signed};
 ghost use Rattle.plural_isa.specs.Encoding.{IsWithin, word_of};
 ghost use Rattle.plural_isa.specs.declared.instr.Instr.TheVariants as instr;
 ghost use Rattle.plural_isa.specs.declared.instr.ImmOp.TheVariants as imm;
@@ -123,11 +122,12 @@ fn put_value(words: &mut Vec<u32>, rd: Reg, value: Option<u32>) -> Result<(), Me
 
 fn put_statement(
     words: &mut Vec<u32>,
-    places: &BTreeMap<Name, u32>,
+    places: &BTreeMap<Name, u64>,
     here: u32,
     statement: Statement,
 ) -> Result<(), Memory>
-    ensures { OnOk result (words.new.items ≡ words.old.items ++ words_at (λ q. get_by (λ k. slice_cmp nat_cmp q k) places.now) here (Some statement)) }
+    ensures { OnOk result (words.new.items
+        ≡ words.old.items ++ words_at (λ q. get_by (λ k. slice_cmp nat_cmp q k) places.now) here (Some statement)) }
 {
     match statement {
         Statement::Nothing => Ok(()),
@@ -152,11 +152,12 @@ fn put_statement(
 /// Appends the words of an instruction at the place `here`; 0 stands for one that has a fault.
 pub(crate) fn put_words(
     words: &mut Vec<u32>,
-    places: &BTreeMap<Name, u32>,
+    places: &BTreeMap<Name, u64>,
     here: u32,
     statement: Option<Statement>,
 ) -> Result<(), Memory>
-    ensures { OnOk result (words.new.items ≡ words.old.items ++ words_at (λ q. get_by (λ k. slice_cmp nat_cmp q k) places.now) here statement) }
+    ensures { OnOk result (words.new.items
+        ≡ words.old.items ++ words_at (λ q. get_by (λ k. slice_cmp nat_cmp q k) places.now) here statement) }
 {
     match statement {
         Some(statement) => put_statement(words, places, here, statement),

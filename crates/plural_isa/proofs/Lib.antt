@@ -1,6 +1,7 @@
-pub mod Fields
-pub mod RoundTrip
-pub mod Again
-pub mod Fitting
-pub mod Named
+pub mod WordFields
+pub mod Rows
+pub mod InstrRoundTrip
+pub mod WordRoundTrip
+pub mod DecodedRanges
+pub mod FirstInRange
 pub mod OneRow

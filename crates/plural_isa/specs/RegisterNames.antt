@@ -2,7 +2,7 @@
 use Rattle.std.specs.Prelude.{ℕ, Bool, ◌||◌, ◌&&◌, List, [], ◌∷◌, Option, codes, bytes_eq, find, if◌then◌else◌, ◌==◌}
 use Rattle.std.specs.List.{range_with_len}
 
--- a register's number, its plain name and its name in the calling convention
+-- A register's number, its plain name and its name in the calling convention.
 abbrev pub register_table : List (ℕ × List ℕ × List ℕ)
 register_table =
     (0, codes "x0", codes "zero")
@@ -47,18 +47,19 @@ abbrev pub convention_in : ℕ → List (ℕ × List ℕ × List ℕ) → List �
 convention_in n [] = []
 convention_in n (e ∷ es) = if n == e.0 then e.2 else convention_in n es
 
--- the plain name of a register
+-- The plain name of a register.
 abbrev pub plain_name : ℕ → List ℕ
 plain_name n = plain_in n register_table
 
--- the name of a register in the calling convention
+-- The name of a register in the calling convention.
 abbrev pub convention_name : ℕ → List ℕ
 convention_name n = convention_in n register_table
 
--- the text is a name of the register; `x8` has `fp` beside `s0`
+-- The text is a name of the register; `x8` has `fp` beside `s0`.
 abbrev pub is_name_of : List ℕ → ℕ → Bool
-is_name_of text n = bytes_eq text (plain_name n) || bytes_eq text (convention_name n) || (n == 8 && bytes_eq text (codes "fp"))
+is_name_of text n =
+    bytes_eq text (plain_name n) || bytes_eq text (convention_name n) || (n == 8 && bytes_eq text (codes "fp"))
 
--- the register that has this name, if one has it
+-- The register that has this name, if one has it.
 abbrev pub named : List ℕ → Option ℕ
 named text = find (λ n. is_name_of text n) (range_with_len 0 32)

@@ -1,3 +1,5 @@
+//! The words of a program's code, each decoded once.
+
 ghost use Rattle.std.specs.Prelude.{◌≡◌, ◌<◌, ◌≤◌, length, slice_index, map, IfOk};
 ghost use Rattle.plural_isa.specs.Decoding.{decoded};
 
@@ -36,7 +38,7 @@ fn instrs_of(alloc: Global, words: &[u32]) -> Result<Vec<Option<Instr>>, AllocEr
 }
 
 impl Code {
-    /// The code of these words. `Err` where memory ran out.
+    /// The code of these words. `Err` if memory ran out.
     pub fn of(alloc: Global, words: Vec<u32>) -> Result<Code, AllocError>
         requires { length words.items ≤ 16384 }
         ensures { IfOk result (λ code. code ≡ words.items) }

@@ -1,9 +1,14 @@
-ghost use Rattle.std.specs.Prelude.{◌≡◌, ℕ, ◌+◌, ◌-◌, ◌*◌, ◌/◌, ◌%◌, ◌^◌, ◌<◌, ◌≤◌, ◌↔◌, IsTrue, pos, neg_ℤ, ◌≤ℤ◌, ◌<ℤ◌};
-ghost use Rattle.plural_isa.specs.Encoding.{bits_of, branch_funct3, load_funct3, store_funct3, imm_funct3, imm_funct7, is_shift, reg_funct3, reg_funct7, r_word, i_word, s_word, b_word, u_word, j_word, word_of, IsWithin, IsOffset, Fits, HasRegisters};
+//! Encoding an instruction: the fixed fields of its operation's row, and its own fields.
+
+ghost use Rattle.std.specs.Prelude.{◌≡◌, ℕ, ◌*◌, ◌^◌, ◌<◌, ◌≤◌, ◌↔◌, IsTrue, pos, neg_ℤ, ◌≤ℤ◌, ◌<ℤ◌};
+ghost use Rattle.plural_isa.specs.Encoding.{bits_of, r_word, i_word, s_word, b_word, u_word, j_word, word_of, IsWithin, IsAmount, Fits, HasRegisters};
+ghost use Rattle.plural_isa.specs.Table.{is_shift};
+ghost use Rattle.plural_isa.specs.declared.instr.Instr.TheVariants as instr;
 ghost use Rattle.plural_isa.specs.Decoding.{decoded};
 
-use crate::instr::{BranchOp, ImmOp, Instr, LoadOp, RegOp, StoreOp};
+use crate::instr::{ImmOp, Instr};
 use crate::reg::Reg;
+use crate::table::{Operation, fixed_fields, is_shift, whole_word};
 
 /// The bits of a number in two's complement, where the sign bit counts `half`.
 fn bits_of(number: i32, half: u32) -> u32
@@ -16,109 +21,6 @@ fn bits_of(number: i32, half: u32) -> u32
         (number + (2 * half) as i32) as u32
     } else {
         number as u32
-    }
-}
-
-fn branch_funct3(op: BranchOp) -> u32
-    ensures value { result ≡ branch_funct3 op }
-    ensures bound { result < 8 }
-{
-    match op {
-        BranchOp::Beq => 0,
-        BranchOp::Bne => 1,
-        BranchOp::Blt => 4,
-        BranchOp::Bge => 5,
-        BranchOp::Bltu => 6,
-        BranchOp::Bgeu => 7,
-    }
-}
-
-fn load_funct3(op: LoadOp) -> u32
-    ensures value { result ≡ load_funct3 op }
-    ensures bound { result < 8 }
-{
-    match op {
-        LoadOp::Lb => 0,
-        LoadOp::Lh => 1,
-        LoadOp::Lw => 2,
-        LoadOp::Lbu => 4,
-        LoadOp::Lhu => 5,
-    }
-}
-
-fn store_funct3(op: StoreOp) -> u32
-    ensures value { result ≡ store_funct3 op }
-    ensures bound { result < 8 }
-{
-    match op {
-        StoreOp::Sb => 0,
-        StoreOp::Sh => 1,
-        StoreOp::Sw => 2,
-    }
-}
-
-fn imm_funct3(op: ImmOp) -> u32
-    ensures value { result ≡ imm_funct3 op }
-    ensures bound { result < 8 }
-{
-    match op {
-        ImmOp::Addi => 0,
-        ImmOp::Slli => 1,
-        ImmOp::Slti => 2,
-        ImmOp::Sltiu => 3,
-        ImmOp::Xori => 4,
-        ImmOp::Srli | ImmOp::Srai => 5,
-        ImmOp::Ori => 6,
-        ImmOp::Andi => 7,
-    }
-}
-
-fn is_shift(op: ImmOp) -> bool
-    ensures { result ≡ is_shift op }
-{
-    matches!(op, ImmOp::Slli | ImmOp::Srli | ImmOp::Srai)
-}
-
-fn imm_funct7(op: ImmOp) -> u32
-    ensures value { result ≡ imm_funct7 op }
-{
-    match op {
-        ImmOp::Srai => 0x20,
-        _ => 0,
-    }
-}
-
-fn reg_funct3(op: RegOp) -> u32
-    ensures value { result ≡ reg_funct3 op }
-    ensures bound { result < 8 }
-{
-    match op {
-        RegOp::Add | RegOp::Sub | RegOp::Mul => 0,
-        RegOp::Sll | RegOp::Mulh => 1,
-        RegOp::Slt | RegOp::Mulhsu => 2,
-        RegOp::Sltu | RegOp::Mulhu => 3,
-        RegOp::Xor | RegOp::Div => 4,
-        RegOp::Srl | RegOp::Sra | RegOp::Divu => 5,
-        RegOp::Or | RegOp::Rem => 6,
-        RegOp::And | RegOp::Remu => 7,
-    }
-}
-
-fn reg_funct7(op: RegOp) -> u32
-    ensures value { result ≡ reg_funct7 op }
-    ensures bound { result < 128 }
-{
-    match op {
-        RegOp::Sub | RegOp::Sra => 0x20,
-        RegOp::Mul
-        | RegOp::Mulh
-        | RegOp::Mulhsu
-        | RegOp::Mulhu
-        | RegOp::Div
-        | RegOp::Divu
-        | RegOp::Rem
-        | RegOp::Remu => 1,
-        _ => 0,
     }
 }
 
@@ -216,6 +118,28 @@ pub fn fits(instr: &Instr) -> bool
     }
 }
 
+fn imm_word(op: ImmOp, rd: Reg, rs1: Reg, imm: i32) -> u32
+    requires { IsAmount (is_shift op) imm }
+    ensures value { result ≡ word_of (instr.OpImm op rd rs1 imm) }
+    ensures registers { (rd < 32) × (rs1 < 32) }
+{
+    let row = fixed_fields(Operation::Imm { op });
+    let field = if is_shift(op) {
+        imm as u32 + (row.funct7 << 5)
+    } else {
+        bits_of(imm, 2048)
+    };
+    i_word(row.code, row.funct3, rd, rs1, field)
+}
+
+fn fence_word(bits: u32) -> u32
+    requires { bits < 4194304 }
+    ensures { result ≡ word_of (instr.Fence bits) }
+{
+    let row = fixed_fields(Operation::Fence);
+    row.code + ((bits & 0x1f) << 7) + (row.funct3 << 12) + ((bits >> 5) << 15)
+}
+
 /// The one word that decodes to the instruction, in the format of its row (RV32I 2.1, "Base
 /// Instruction Formats" and "Immediate Encoding Variants").
 pub fn encode(instr: Instr) -> u32
@@ -233,43 +157,43 @@ fn word_of(instr: Instr) -> u32
     ensures registers { HasRegisters instr }
 {
     match instr {
-        Instr::Lui { rd, imm } => u_word(0x37, rd, imm),
-        Instr::Auipc { rd, imm } => u_word(0x17, rd, imm),
-        Instr::Jal { rd, offset } => j_word(0x6f, rd, bits_of(offset, 1_048_576)),
-        Instr::Jalr { rd, rs1, imm } => i_word(0x67, 0, rd, rs1, bits_of(imm, 2048)),
+        Instr::Lui { rd, imm } => u_word(fixed_fields(Operation::Lui).code, rd, imm),
+        Instr::Auipc { rd, imm } => u_word(fixed_fields(Operation::Auipc).code, rd, imm),
+        Instr::Jal { rd, offset } => {
+            j_word(
+                fixed_fields(Operation::Jal).code,
+                rd,
+                bits_of(offset, 1_048_576),
+            )
+        }
+        Instr::Jalr { rd, rs1, imm } => {
+            let row = fixed_fields(Operation::Jalr);
+            i_word(row.code, row.funct3, rd, rs1, bits_of(imm, 2048))
+        }
         Instr::Branch {
             op,
             rs1,
             rs2,
             offset,
-        } => { b_word(0x63, branch_funct3(op), rs1, rs2, bits_of(offset, 4096)) }
-        Instr::Load { op, rd, rs1, imm } => i_word(
-            0x03,
-            load_funct3(op),
-            rd,
-            rs1,
-            bits_of(imm, 2048),
-        ),
-        Instr::Store { op, rs1, rs2, imm } => s_word(
-            0x23,
-            store_funct3(op),
-            rs1,
-            rs2,
-            bits_of(imm, 2048),
-        ),
-        Instr::OpImm { op, rd, rs1, imm } => {
-            let field = if is_shift(op) {
-                imm as u32 + (imm_funct7(op) << 5)
-            } else {
-                bits_of(imm, 2048)
-            };
-            i_word(0x13, imm_funct3(op), rd, rs1, field)
+        } => {
+            let row = fixed_fields(Operation::Branch { op });
+            b_word(row.code, row.funct3, rs1, rs2, bits_of(offset, 4096))
         }
+        Instr::Load { op, rd, rs1, imm } => {
+            let row = fixed_fields(Operation::Load { op });
+            i_word(row.code, row.funct3, rd, rs1, bits_of(imm, 2048))
+        }
+        Instr::Store { op, rs1, rs2, imm } => {
+            let row = fixed_fields(Operation::Store { op });
+            s_word(row.code, row.funct3, rs1, rs2, bits_of(imm, 2048))
+        }
+        Instr::OpImm { op, rd, rs1, imm } => imm_word(op, rd, rs1, imm),
         Instr::Op { op, rd, rs1, rs2 } => {
-            r_word(0x33, reg_funct3(op), reg_funct7(op), rd.number(), rs1, rs2)
+            let row = fixed_fields(Operation::Reg { op });
+            r_word(row.code, row.funct3, row.funct7, rd.number(), rs1, rs2)
         }
-        Instr::Fence { fields } => 0x0f + ((fields & 0x1f) << 7) + ((fields >> 5) << 15),
-        Instr::Ecall => 0x0000_0073,
-        Instr::Ebreak => 0x0010_0073,
+        Instr::Fence { fields } => fence_word(fields),
+        Instr::Ecall => whole_word(Operation::Ecall),
+        Instr::Ebreak => whole_word(Operation::Ebreak),
     }
 }

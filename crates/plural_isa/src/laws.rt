@@ -1,5 +1,5 @@
 //! Laws of the table: it is unambiguous, and decoding and encoding undo one another.
-ghost use Rattle.plural_isa.specs.Laws.{HasOneRow, DecodesAgain, EncodesAgain, DecodesFit};
+ghost use Rattle.plural_isa.specs.Laws.{HasOneRow, InstrRoundTrip, WordRoundTrip, DecodesFit};
 
 /// A word has at most one row of the table.
 pub fn one_row()
@@ -7,13 +7,13 @@ pub fn one_row()
 {}
 
 /// An instruction that fits is what its word decodes to.
-pub fn decodes_again()
-    ensures { DecodesAgain }
+pub fn instr_round_trip()
+    ensures { InstrRoundTrip }
 {}
 
 /// A word that decodes is the one of its instruction.
-pub fn encodes_again()
-    ensures { EncodesAgain }
+pub fn word_round_trip()
+    ensures { WordRoundTrip }
 {}
 
 /// What a word decodes to fits.

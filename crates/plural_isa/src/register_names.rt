@@ -1,4 +1,4 @@
-ghost use Rattle.std.specs.Prelude.{◌≡◌, ℕ};
+ghost use Rattle.std.specs.Prelude.{◌≡◌};
 ghost use Rattle.plural_isa.specs.RegisterNames.{named, plain_name, convention_name, is_name_of};
 
 use crate::reg::Reg;
@@ -44,7 +44,7 @@ pub fn reg_name(reg: Reg) -> &'static str
 }
 
 /// The register that has this name: `x0` to `x31`, or a name of the RISC-V calling convention
-/// (`zero`, `ra`, `sp`, ..; `x8` is both `s0` and `fp`). None where the text is no such name.
+/// (`zero`, `ra`, `sp`, ..; `x8` is both `s0` and `fp`). None if the text is no such name.
 pub fn reg_of(text: &[u8]) -> Option<Reg>
     ensures { result ≡ named text.now }
 {

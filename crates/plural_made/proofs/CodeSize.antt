@@ -2,7 +2,7 @@
 use Rattle.std.proofs.Common.{◌≡◌, [], ◌∷◌, map, refl, ◌∙◌}
 use Rattle.plural_asm.specs.Labels.{place_after}
 use Rattle.plural_asm.specs.Words.{labels_of}
-use Rattle.plural_asm.proofs.Listed.{code_length}
+use Rattle.plural_asm.proofs.LineSums.{code_length}
 use Rattle.plural_generator.specs.Tasks.{made_map}
 use Rattle.plural_generator.specs.Kernels.{fir_text, top_text, best_text, loud_text, quiet_text, done_text}
 use Rattle.plural_bundle.specs.Value.{pc_of}

@@ -14,8 +14,8 @@ use Rattle.plural_asm.specs.Rules.{is_out_of_range, is_defined, is_unknown, is_f
 use Rattle.plural_asm.specs.declared.offset.Offset.{Offset}
 use Rattle.plural_asm.specs.declared.object.AsmKind.{AsmKind}
 use Rattle.plural_asm.specs.declared.object.AsmKind.TheVariants as kinds
-use Rattle.plural_asm.proofs.Placed.{place_after_push, place_of_push}
-use Rattle.plural_asm.proofs.Listed.{gathered_push}
+use Rattle.plural_asm.proofs.LabelPlaces.{place_after_push, place_of_push}
+use Rattle.plural_asm.proofs.LineSums.{gathered_push}
 
 -- What is known after some lines: the places of labels, how many words they make, and how many labels they have.
 pub record Known : Type 0 where

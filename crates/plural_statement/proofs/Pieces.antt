@@ -19,8 +19,10 @@ some_piece p (c ∷ cs) = elim (p c) as (λ b. (a : List ℕ) × (more : List (L
 pub one_more : (xs a rest : List ℕ) → slice_split is_comma xs ≡ a ∷ slice_split is_comma rest → one_of (operands xs) ≡ None
 one_more xs a rest e = let s = some_piece is_comma rest in rw (e, s.2) refl
 
+-- A text with a third piece has not two operands.
 pub two_more : (xs a ys b rest : List ℕ) → slice_split is_comma xs ≡ a ∷ slice_split is_comma ys → slice_split is_comma ys ≡ b ∷ slice_split is_comma rest → two_of (operands xs) ≡ None
 two_more xs a ys b rest e f = let s = some_piece is_comma rest in rw (e, f, s.2) refl
 
+-- A text with a fourth piece has not three operands.
 pub three_more : (xs a ys b zs d rest : List ℕ) → slice_split is_comma xs ≡ a ∷ slice_split is_comma ys → slice_split is_comma ys ≡ b ∷ slice_split is_comma zs → slice_split is_comma zs ≡ d ∷ slice_split is_comma rest → three_of (operands xs) ≡ None
 three_more xs a ys b zs d rest e f g = let s = some_piece is_comma rest in rw (e, f, g, s.2) refl

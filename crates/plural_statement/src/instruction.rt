@@ -1,21 +1,21 @@
 //! The instruction of a kernel line, before the labels' places are known.
 
-ghost use Rattle.std.specs.Prelude.{◌≡◌, ◌≤◌, ℕ, Some, None, false, true};
-ghost use Rattle.plural_isa.specs.Encoding.{word_of, is_shift};
-ghost use Rattle.plural_statement.specs.Statement.{with_imm, with_field, statement_at, instruction};
+ghost use Rattle.std.specs.Prelude.{◌≡◌, false, true};
+ghost use Rattle.plural_isa.specs.Table.{is_shift};
+ghost use Rattle.plural_statement.specs.Statement.{statement_at, instruction};
 ghost use Rattle.plural_statement.specs.declared.mnemonics.Mnemonic.TheVariants as m;
 
 use crate::mnemonics::{Mnemonic, mnemonic_of};
 use crate::shape::{
-    bare, known, one_target, one_word, reg_field, reg_indexed, reg_target, reg_word, regs_amount,
-    regs_imm, regs_target, three_regs, two_regs,
+    OUT_OF_RANGE, bare, known, one_target, one_word, reg_field, reg_indexed, reg_target, reg_word,
+    regs_amount, regs_imm, regs_target, three_regs, two_regs,
 };
 use crate::statement::Statement;
 use plural_bytes::{find_blank, trim_start};
-use plural_isa::{BranchOp, ImmOp, Instr, LoadOp, Reg, RegOp, StoreOp};
+use plural_isa::{BranchOp, ImmOp, Instr, LoadOp, Reg, RegOp, StoreOp, encode, is_shift};
 
-/// An instruction whose number is out of its range.
-const OUT_OF_RANGE: Statement = Statement::Known { word: None };
+/// The word of `fence`: all accesses before it come before all accesses after it.
+pub const FENCE: u32 = 0x0ff0_000f;
 
 fn load(op: LoadOp, text: &[u8]) -> Option<Statement>
     ensures { result ≡ statement_at (m.Load op) text.now }
@@ -45,12 +45,6 @@ fn jalr(text: &[u8]) -> Option<Statement>
         None => Some(OUT_OF_RANGE),
         Some(imm) => Some(known(Instr::Jalr { rd, rs1, imm })),
     }
-}
-
-fn shifts(op: ImmOp) -> bool
-    ensures { result ≡ is_shift op }
-{
-    matches!(op, ImmOp::Slli | ImmOp::Srli | ImmOp::Srai)
 }
 
 fn shift(op: ImmOp, text: &[u8]) -> Option<Statement>
@@ -134,14 +128,19 @@ fn j(text: &[u8]) -> Option<Statement>
 fn word(text: &[u8]) -> Option<Statement>
     ensures { result ≡ statement_at m.Word text.now }
 {
-    let word = one_word(text)?;
-    Some(Statement::Known { word })
+    one_word(text)
 }
 
 fn nop(text: &[u8]) -> Option<Statement>
     ensures { result ≡ statement_at m.Nop text.now }
 {
-    bare(0x0000_0013, text)
+    let word = encode(Instr::OpImm {
+        op: ImmOp::Addi,
+        rd: Reg::of(0),
+        rs1: Reg::of(0),
+        imm: 0,
+    });
+    bare(word, text)
 }
 
 fn mv(text: &[u8]) -> Option<Statement>
@@ -220,7 +219,7 @@ fn statement_at(mnemonic: Mnemonic, text: &[u8]) -> Option<Statement>
         Mnemonic::Load { op } => load(op, text),
         Mnemonic::Store { op } => store(op, text),
         Mnemonic::Imm { op } => {
-            if shifts(op) {
+            if is_shift(op) {
                 shift(op, text)
             } else {
                 imm(op, text)
@@ -231,9 +230,9 @@ fn statement_at(mnemonic: Mnemonic, text: &[u8]) -> Option<Statement>
         Mnemonic::Auipc => auipc(text),
         Mnemonic::Jal => jal(text),
         Mnemonic::Jalr => jalr(text),
-        Mnemonic::Fence => bare(0x0ff0_000f, text),
-        Mnemonic::Ecall => bare(0x0000_0073, text),
-        Mnemonic::Ebreak => bare(0x0010_0073, text),
+        Mnemonic::Fence => bare(FENCE, text),
+        Mnemonic::Ecall => bare(encode(Instr::Ecall), text),
+        Mnemonic::Ebreak => bare(encode(Instr::Ebreak), text),
         Mnemonic::Word => word(text),
         Mnemonic::Nop => nop(text),
         Mnemonic::Mv => mv(text),

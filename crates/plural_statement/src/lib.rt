@@ -14,6 +14,7 @@ mod operands;
 mod shape;
 mod statement;
 
+pub use instruction::FENCE;
 pub use line::{label_of, line_of};
 pub use mnemonics::{Mnemonic, mnemonic_text};
 pub use statement::{KernelLine, Statement, Target};

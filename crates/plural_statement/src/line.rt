@@ -1,8 +1,7 @@
 //! A kernel line.
 
-ghost use Rattle.std.specs.Prelude.{◌≡◌, ◌≤◌, ◌<◌, ℕ, Some, None, MatchOption, position};
-ghost use Rattle.plural_statement.specs.Operands.{halves};
-ghost use Rattle.plural_statement.specs.Statement.{is_colon, label_split, label_of, unlabelled, line_of};
+ghost use Rattle.std.specs.Prelude.{◌≡◌, Some, None, MatchOption, position};
+ghost use Rattle.plural_statement.specs.Statement.{is_colon, label_split, label_of, line_of};
 
 use crate::instruction::instruction;
 use crate::statement::KernelLine;
@@ -14,7 +13,7 @@ fn find_colon(text: &[u8]) -> Option<usize>
     text.iter().position(|c| *c == b':')
 }
 
-/// The name that a text begins with directly before a colon, and what stands behind that colon.
+/// The name that a text begins with directly before a colon, and what stands after that colon.
 fn label_split(text: &[u8]) -> Option<(Name, &[u8])>
     ensures { MatchOption result (label_split text.now ≡ None) (λ r. label_split text.now ≡ Some (r.0, r.1.now)) }
 {
@@ -37,7 +36,7 @@ pub fn label_of(text: &[u8]) -> Option<Name>
     }
 }
 
-/// A kernel line: its label, and its instruction where it has the shape of one.
+/// A kernel line: its label, and its instruction if it has the shape of one.
 pub fn line_of(text: &[u8]) -> KernelLine
     ensures { result ≡ line_of text.now }
 {

@@ -1,9 +1,11 @@
 //! The mnemonics of kernel lines.
 
 ghost use Rattle.std.specs.Prelude.{◌≡◌, find, bytes_eq};
-ghost use Rattle.plural_statement.specs.Mnemonics.{branch_text, load_text, store_text, imm_text, reg_text, mnemonic_text, mnemonics, mnemonic_of};
+ghost use Rattle.plural_statement.specs.Mnemonics.{of_table, mnemonic_text, own_mnemonics, mnemonic_of};
 
-use plural_isa::{BranchOp, ImmOp, LoadOp, RegOp, StoreOp};
+use plural_isa::{
+    BranchOp, ImmOp, LoadOp, Operation, RegOp, StoreOp, operation_named, operation_text,
+};
 
 /// A mnemonic: an operation of the instruction table, `.word`, or a pseudo-instruction.
 #[derive(Clone, Copy, Debug, PartialEq, Eq)]
@@ -31,56 +33,8 @@ pub enum Mnemonic {
     Li,
 }
 
-/// All mnemonics.
-const MNEMONICS: [Mnemonic; 57] = [
-    Mnemonic::Branch { op: BranchOp::Beq },
-    Mnemonic::Branch { op: BranchOp::Bne },
-    Mnemonic::Branch { op: BranchOp::Blt },
-    Mnemonic::Branch { op: BranchOp::Bge },
-    Mnemonic::Branch { op: BranchOp::Bltu },
-    Mnemonic::Branch { op: BranchOp::Bgeu },
-    Mnemonic::Load { op: LoadOp::Lb },
-    Mnemonic::Load { op: LoadOp::Lh },
-    Mnemonic::Load { op: LoadOp::Lw },
-    Mnemonic::Load { op: LoadOp::Lbu },
-    Mnemonic::Load { op: LoadOp::Lhu },
-    Mnemonic::Store { op: StoreOp::Sb },
-    Mnemonic::Store { op: StoreOp::Sh },
-    Mnemonic::Store { op: StoreOp::Sw },
-    Mnemonic::Imm { op: ImmOp::Addi },
-    Mnemonic::Imm { op: ImmOp::Slti },
-    Mnemonic::Imm { op: ImmOp::Sltiu },
-    Mnemonic::Imm { op: ImmOp::Xori },
-    Mnemonic::Imm { op: ImmOp::Ori },
-    Mnemonic::Imm { op: ImmOp::Andi },
-    Mnemonic::Imm { op: ImmOp::Slli },
-    Mnemonic::Imm { op: ImmOp::Srli },
-    Mnemonic::Imm { op: ImmOp::Srai },
-    Mnemonic::Reg { op: RegOp::Add },
-    Mnemonic::Reg { op: RegOp::Sub },
-    Mnemonic::Reg { op: RegOp::Sll },
-    Mnemonic::Reg { op: RegOp::Slt },
-    Mnemonic::Reg { op: RegOp::Sltu },
-    Mnemonic::Reg { op: RegOp::Xor },
-    Mnemonic::Reg { op: RegOp::Srl },
-    Mnemonic::Reg { op: RegOp::Sra },
-    Mnemonic::Reg { op: RegOp::Or },
-    Mnemonic::Reg { op: RegOp::And },
-    Mnemonic::Reg { op: RegOp::Mul },
-    Mnemonic::Reg { op: RegOp::Mulh },
-    Mnemonic::Reg { op: RegOp::Mulhsu },
-    Mnemonic::Reg { op: RegOp::Mulhu },
-    Mnemonic::Reg { op: RegOp::Div },
-    Mnemonic::Reg { op: RegOp::Divu },
-    Mnemonic::Reg { op: RegOp::Rem },
-    Mnemonic::Reg { op: RegOp::Remu },
-    Mnemonic::Lui,
-    Mnemonic::Auipc,
-    Mnemonic::Jal,
-    Mnemonic::Jalr,
-    Mnemonic::Fence,
-    Mnemonic::Ecall,
-    Mnemonic::Ebreak,
+/// This assembler's own mnemonics.
+const OWN_MNEMONICS: [Mnemonic; 9] = [
     Mnemonic::Word,
     Mnemonic::Nop,
     Mnemonic::Mv,
@@ -92,79 +46,23 @@ const MNEMONICS: [Mnemonic; 57] = [
     Mnemonic::Li,
 ];
 
-fn branch_text(op: BranchOp) -> &'static str
-    ensures { result.now ≡ branch_text op }
+/// The mnemonic of an operation of the table.
+fn of_table(operation: Operation) -> Mnemonic
+    ensures { result ≡ of_table operation }
 {
-    match op {
-        BranchOp::Beq => "beq",
-        BranchOp::Bne => "bne",
-        BranchOp::Blt => "blt",
-        BranchOp::Bge => "bge",
-        BranchOp::Bltu => "bltu",
-        BranchOp::Bgeu => "bgeu",
-    }
-}
-
-fn load_text(op: LoadOp) -> &'static str
-    ensures { result.now ≡ load_text op }
-{
-    match op {
-        LoadOp::Lb => "lb",
-        LoadOp::Lh => "lh",
-        LoadOp::Lw => "lw",
-        LoadOp::Lbu => "lbu",
-        LoadOp::Lhu => "lhu",
-    }
-}
-
-fn store_text(op: StoreOp) -> &'static str
-    ensures { result.now ≡ store_text op }
-{
-    match op {
-        StoreOp::Sb => "sb",
-        StoreOp::Sh => "sh",
-        StoreOp::Sw => "sw",
-    }
-}
-
-fn imm_text(op: ImmOp) -> &'static str
-    ensures { result.now ≡ imm_text op }
-{
-    match op {
-        ImmOp::Addi => "addi",
-        ImmOp::Slti => "slti",
-        ImmOp::Sltiu => "sltiu",
-        ImmOp::Xori => "xori",
-        ImmOp::Ori => "ori",
-        ImmOp::Andi => "andi",
-        ImmOp::Slli => "slli",
-        ImmOp::Srli => "srli",
-        ImmOp::Srai => "srai",
-    }
-}
-
-fn reg_text(op: RegOp) -> &'static str
-    ensures { result.now ≡ reg_text op }
-{
-    match op {
-        RegOp::Add => "add",
-        RegOp::Sub => "sub",
-        RegOp::Sll => "sll",
-        RegOp::Slt => "slt",
-        RegOp::Sltu => "sltu",
-        RegOp::Xor => "xor",
-        RegOp::Srl => "srl",
-        RegOp::Sra => "sra",
-        RegOp::Or => "or",
-        RegOp::And => "and",
-        RegOp::Mul => "mul",
-        RegOp::Mulh => "mulh",
-        RegOp::Mulhsu => "mulhsu",
-        RegOp::Mulhu => "mulhu",
-        RegOp::Div => "div",
-        RegOp::Divu => "divu",
-        RegOp::Rem => "rem",
-        RegOp::Remu => "remu",
+    match operation {
+        Operation::Branch { op } => Mnemonic::Branch { op },
+        Operation::Load { op } => Mnemonic::Load { op },
+        Operation::Store { op } => Mnemonic::Store { op },
+        Operation::Imm { op } => Mnemonic::Imm { op },
+        Operation::Reg { op } => Mnemonic::Reg { op },
+        Operation::Lui => Mnemonic::Lui,
+        Operation::Auipc => Mnemonic::Auipc,
+        Operation::Jal => Mnemonic::Jal,
+        Operation::Jalr => Mnemonic::Jalr,
+        Operation::Fence => Mnemonic::Fence,
+        Operation::Ecall => Mnemonic::Ecall,
+        Operation::Ebreak => Mnemonic::Ebreak,
     }
 }
 
@@ -173,18 +71,18 @@ pub fn mnemonic_text(mnemonic: Mnemonic) -> &'static str
     ensures { result.now ≡ mnemonic_text mnemonic }
 {
     match mnemonic {
-        Mnemonic::Branch { op } => branch_text(op),
-        Mnemonic::Load { op } => load_text(op),
-        Mnemonic::Store { op } => store_text(op),
-        Mnemonic::Imm { op } => imm_text(op),
-        Mnemonic::Reg { op } => reg_text(op),
-        Mnemonic::Lui => "lui",
-        Mnemonic::Auipc => "auipc",
-        Mnemonic::Jal => "jal",
-        Mnemonic::Jalr => "jalr",
-        Mnemonic::Fence => "fence",
-        Mnemonic::Ecall => "ecall",
-        Mnemonic::Ebreak => "ebreak",
+        Mnemonic::Branch { op } => operation_text(Operation::Branch { op }),
+        Mnemonic::Load { op } => operation_text(Operation::Load { op }),
+        Mnemonic::Store { op } => operation_text(Operation::Store { op }),
+        Mnemonic::Imm { op } => operation_text(Operation::Imm { op }),
+        Mnemonic::Reg { op } => operation_text(Operation::Reg { op }),
+        Mnemonic::Lui => operation_text(Operation::Lui),
+        Mnemonic::Auipc => operation_text(Operation::Auipc),
+        Mnemonic::Jal => operation_text(Operation::Jal),
+        Mnemonic::Jalr => operation_text(Operation::Jalr),
+        Mnemonic::Fence => operation_text(Operation::Fence),
+        Mnemonic::Ecall => operation_text(Operation::Ecall),
+        Mnemonic::Ebreak => operation_text(Operation::Ebreak),
         Mnemonic::Word => ".word",
         Mnemonic::Nop => "nop",
         Mnemonic::Mv => "mv",
@@ -203,12 +101,22 @@ fn is_mnemonic(text: &[u8], mnemonic: Mnemonic) -> bool
     text == mnemonic_text(mnemonic).as_bytes()
 }
 
+/// This assembler's own mnemonic that a text is, if it is one.
+fn own_named(text: &[u8]) -> Option<Mnemonic>
+    ensures { result ≡ find (λ k. bytes_eq text.now (mnemonic_text k)) own_mnemonics }
+{
+    OWN_MNEMONICS
+        .iter()
+        .copied()
+        .find(|mnemonic| is_mnemonic(text, *mnemonic))
+}
+
 /// The mnemonic that a text is, if it is one.
 pub(crate) fn mnemonic_of(text: &[u8]) -> Option<Mnemonic>
     ensures { result ≡ mnemonic_of text.now }
 {
-    MNEMONICS
-        .iter()
-        .copied()
-        .find(|mnemonic| is_mnemonic(text, *mnemonic))
+    match operation_named(text) {
+        Some(operation) => Some(of_table(operation)),
+        None => own_named(text),
+    }
 }

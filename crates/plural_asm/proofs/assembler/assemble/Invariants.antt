@@ -3,7 +3,7 @@ use Rattle.std.specs.BTreeMap.{get_by}
 use Rattle.std.specs.Cmp.Lexicographic.{slice_cmp}
 use Rattle.std.specs.Ordering.{nat_cmp}
 use Rattle.plural_bytes.specs.Spelled.{text_lines}
-use Rattle.plural_asm.proofs.Checked.{Reads}
+use Rattle.plural_asm.proofs.AssemblyLoop.{Reads}
 use Rattle.plural_asm.proofs.assembler.assemble.Given as goal
 
 abbrev pub invariant-loop-line : goal.invariant-loop-line

@@ -3,9 +3,10 @@ use Rattle.std.proofs.Common.{◌++◌, ap, ◌∙◌}
 use Rattle.std.proofs.Math.Facts.{to_z-of_z}
 use Rattle.plural_isa.specs.RegisterNames.{plain_name}
 use Rattle.plural_asm.specs.WordText.{reg_address_text}
-use Rattle.plural_asm.proofs.Joined.{append_four}
+use Rattle.plural_asm.proofs.AppendFour.{append_four}
 use Rattle.plural_asm.proofs.disassembler.put_reg_address.Goals as goal
 
+-- The appended pieces are the text.
 pub returns : goal.returns
 returns c =
     c.in_ok-push-2.ensures.items

@@ -1,9 +1,10 @@
 use Rattle.std.proofs.Common.{Some, None, ◌∷◌, [], ◌++◌, ap, sym, ◌∙◌}
 use Rattle.std.proofs.lemmas.List.{append-nil}
-use Rattle.plural_asm.proofs.Listed.{names_more}
+use Rattle.plural_asm.proofs.LineSums.{names_more}
 use Rattle.plural_asm.proofs.labels.names.Goals as goal
 use Rattle.plural_asm.proofs.labels.names.Goals.{in-Some+in_ok-push-in-Some, in-None}
 
+-- One more line adds its name, if it has one.
 pub loop-line-preserved : goal.loop-line-preserved
 loop-line-preserved c = elim c.match-label_of.branch [
   | in-Some+in_ok-push-in-Some w ↦

@@ -1,16 +1,18 @@
-use Rattle.std.proofs.Common.{◌+◌, ap, sym, ◌∙◌, arith}
+use Rattle.std.proofs.Common.{◌≡◌, ◌+◌, ap, sym, ◌∙◌, arith}
 use Rattle.plural_asm.specs.Labels.{is_option, words_in}
 use Rattle.plural_statement.specs.declared.statement.KernelLine.{KernelLine}
-use Rattle.plural_asm.proofs.Placed.{known_more, place_more}
+use Rattle.plural_asm.proofs.LabelPlaces.{known_more, place_more}
 use Rattle.plural_asm.proofs.places.places.Goals as goal
 
+-- One more line adds its words, and its label if that is new.
 pub loop-line-preserved : goal.loop-line-preserved
 loop-line-preserved c = record {
   known =
       λ q. c.in_ok-note_label.ensures q
       ∙ known_more c.args.lines.now c.loop-line.line-index _ q _ (is_option c.line_of-kernel.result.label q) c.loop-line.place c.loop-line-test.true (c.loop-line.invariant.known q) c.loop-line.invariant.place (ap (λ (k : KernelLine). is_option k.label q) (sym c.line_of-kernel.ensures));
   place =
-      ap (λ n. c.loop-line.place + n) (c.words_in-place.ensures.value ∙ ap (λ (k : KernelLine). words_in k.statement) c.line_of-kernel.ensures)
+      let e : c.from-place.result ≡ words_in c.line_of-kernel.result.statement = omega arith in
+      ap (λ n. c.loop-line.place + n) (e ∙ ap (λ (k : KernelLine). words_in k.statement) c.line_of-kernel.ensures)
       ∙ place_more c.args.lines.now c.loop-line.line-index _ c.loop-line.place c.loop-line-test.true c.loop-line.invariant.place;
-  small = omega (arith, c.words_in-place.ensures.few, c.loop-line.invariant.small);
+  small = omega (arith, c.loop-line.invariant.small);
 }

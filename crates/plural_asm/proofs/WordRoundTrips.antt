@@ -13,8 +13,8 @@ use Rattle.plural_asm.specs.WordText.{word_text}
 use Rattle.plural_asm.specs.Laws.{Makes, words_text}
 use Rattle.plural_asm.specs.declared.object.AsmKind.{AsmKind}
 use Rattle.plural_asm.specs.declared.object.AsmKind.TheVariants as kinds
-use Rattle.plural_asm.proofs.Listed.{place_first}
-use Rattle.plural_asm.proofs.Lined.{no_label, all_left}
+use Rattle.plural_asm.proofs.LineSums.{place_first}
+use Rattle.plural_asm.proofs.UnlabelledLines.{no_label, all_left}
 use Rattle.plural_asm.proofs.Texts.{Spells, spells}
 
 -- ---- one line
@@ -28,7 +28,7 @@ size_is w text h = ap words_in (statement_is w text h) ∙ h.says.one
 neither : (a b : Bool) → a ≡ false → b ≡ false → (a || b) ≡ true → ⊥
 neither a b e f h = both_ways (a || b) (or_from a b e f) h
 
--- the line of a word has no fault behind fewer than 16,384 words
+-- the line of a word has no fault after fewer than 16,384 words
 sound : (all before : List TextLine) (w : ℕ) (text : List ℕ) → Spells w text → place_after before < 16384 → (kind : AsmKind) → Breaks all before text kind → ⊥
 sound all before w text h l kinds.Form b = let f : false ≡ true = sym (ap is_none (statement_is w text h) ∙ h.says.formed) ∙ b in absurd cc
 sound all before w text h l kinds.Number b = let f : false ≡ true = sym (ap is_out_of_range (statement_is w text h) ∙ h.says.ranged) ∙ b in absurd cc
@@ -99,8 +99,9 @@ makes ls ws h l = record {
   unlabelled = no_labels 0 ls ws h;
 }
 
-pub word_again : (n w : ℕ) → w < 2 ^ 32 → (content_lines (word_text w ++ 10 ∷ []) ≡ (1, word_text w) ∷ []) × Makes ((n, word_text w) ∷ []) (w ∷ [])
-word_again n w l = (line_first 1 (word_text w) [] (spells w l).line.line, makes ((n, word_text w) ∷ []) (w ∷ []) (spells w l, tt) (omega arith))
+-- The line of a word makes the word.
+pub word_round_trip : (n w : ℕ) → w < 2 ^ 32 → (content_lines (word_text w ++ 10 ∷ []) ≡ (1, word_text w) ∷ []) × Makes ((n, word_text w) ∷ []) (w ∷ [])
+word_round_trip n w l = (line_first 1 (word_text w) [] (spells w l).line.line, makes ((n, word_text w) ∷ []) (w ∷ []) (spells w l, tt) (omega arith))
 
 -- ---- the text of words
 
@@ -114,12 +115,14 @@ stay_from n (w ∷ ws) h =
     ∙ line_first n (word_text w) (words_text ws) (spells w h.0).line.line
     ∙ ap (λ ls. (n, word_text w) ∷ ls) (stay_from (n + 1) ws h.1)
 
-pub texts_stay : (ws : List ℕ) → AllWords ws → content_lines (words_text ws) ≡ enumerate_from 1 (map word_text ws)
-texts_stay ws h = stay_from 1 ws h
+-- The content lines of the texts of words are these texts.
+pub texts_are_lines : (ws : List ℕ) → AllWords ws → content_lines (words_text ws) ≡ enumerate_from 1 (map word_text ws)
+texts_are_lines ws h = stay_from 1 ws h
 
 all_say : (n : ℕ) (ws : List ℕ) → AllWords ws → AllSay (enumerate_from n (map word_text ws)) ws
 all_say n [] h = tt
 all_say n (w ∷ ws) h = (spells w h.0, all_say (n + 1) ws h.1)
 
-pub words_again : (ws : List ℕ) → AllWords ws → length ws ≤ 16384 → Makes (content_lines (words_text ws)) ws
-words_again ws h l = subst (λ ls. Makes ls ws) (sym (texts_stay ws h)) (makes (enumerate_from 1 (map word_text ws)) ws (all_say 1 ws h) l)
+-- The lines of words make the words.
+pub words_round_trip : (ws : List ℕ) → AllWords ws → length ws ≤ 16384 → Makes (content_lines (words_text ws)) ws
+words_round_trip ws h l = subst (λ ls. Makes ls ws) (sym (texts_are_lines ws h)) (makes (enumerate_from 1 (map word_text ws)) ws (all_say 1 ws h) l)

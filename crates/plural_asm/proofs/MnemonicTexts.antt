@@ -23,69 +23,48 @@ use Rattle.plural_asm.proofs.Plain.{is_word, IsOperand, solid_of}
 abbrev pub IsSpelled : Mnemonic → Type 0
 IsSpelled k = (list_all is_word (mnemonic_text k) ≡ true) × (nat_lt 0 (length (mnemonic_text k)) ≡ true) × (mnemonic_of (mnemonic_text k) ≡ Some k)
 
+-- A branch is found by its text.
 pub spelled_branch : (op : BranchOp) → IsSpelled (m.Branch op)
 spelled_branch branch.Beq = (refl, refl, refl)
-spelled_branch branch.Bne = (refl, refl, refl)
-spelled_branch branch.Blt = (refl, refl, refl)
-spelled_branch branch.Bge = (refl, refl, refl)
-spelled_branch branch.Bltu = (refl, refl, refl)
-spelled_branch branch.Bgeu = (refl, refl, refl)
+spelled_branch _ = (refl, refl, refl)
 
+-- A load is found by its text.
 pub spelled_load : (op : LoadOp) → IsSpelled (m.Load op)
 spelled_load load.Lb = (refl, refl, refl)
-spelled_load load.Lh = (refl, refl, refl)
-spelled_load load.Lw = (refl, refl, refl)
-spelled_load load.Lbu = (refl, refl, refl)
-spelled_load load.Lhu = (refl, refl, refl)
+spelled_load _ = (refl, refl, refl)
 
+-- A store is found by its text.
 pub spelled_store : (op : StoreOp) → IsSpelled (m.Store op)
 spelled_store store.Sb = (refl, refl, refl)
-spelled_store store.Sh = (refl, refl, refl)
-spelled_store store.Sw = (refl, refl, refl)
+spelled_store _ = (refl, refl, refl)
 
+-- An operation on an immediate is found by its text.
 pub spelled_imm : (op : ImmOp) → IsSpelled (m.Imm op)
 spelled_imm imm.Addi = (refl, refl, refl)
-spelled_imm imm.Slti = (refl, refl, refl)
-spelled_imm imm.Sltiu = (refl, refl, refl)
-spelled_imm imm.Xori = (refl, refl, refl)
-spelled_imm imm.Ori = (refl, refl, refl)
-spelled_imm imm.Andi = (refl, refl, refl)
-spelled_imm imm.Slli = (refl, refl, refl)
-spelled_imm imm.Srli = (refl, refl, refl)
-spelled_imm imm.Srai = (refl, refl, refl)
+spelled_imm _ = (refl, refl, refl)
 
+-- An operation on two registers is found by its text.
 pub spelled_reg : (op : RegOp) → IsSpelled (m.Reg op)
 spelled_reg reg.Add = (refl, refl, refl)
-spelled_reg reg.Sub = (refl, refl, refl)
-spelled_reg reg.Sll = (refl, refl, refl)
-spelled_reg reg.Slt = (refl, refl, refl)
-spelled_reg reg.Sltu = (refl, refl, refl)
-spelled_reg reg.Xor = (refl, refl, refl)
-spelled_reg reg.Srl = (refl, refl, refl)
-spelled_reg reg.Sra = (refl, refl, refl)
-spelled_reg reg.Or = (refl, refl, refl)
-spelled_reg reg.And = (refl, refl, refl)
-spelled_reg reg.Mul = (refl, refl, refl)
-spelled_reg reg.Mulh = (refl, refl, refl)
-spelled_reg reg.Mulhsu = (refl, refl, refl)
-spelled_reg reg.Mulhu = (refl, refl, refl)
-spelled_reg reg.Div = (refl, refl, refl)
-spelled_reg reg.Divu = (refl, refl, refl)
-spelled_reg reg.Rem = (refl, refl, refl)
-spelled_reg reg.Remu = (refl, refl, refl)
+spelled_reg _ = (refl, refl, refl)
 
+-- `lui` is found by its text.
 pub spelled_lui : IsSpelled m.Lui
 spelled_lui = (refl, refl, refl)
 
+-- `auipc` is found by its text.
 pub spelled_auipc : IsSpelled m.Auipc
 spelled_auipc = (refl, refl, refl)
 
+-- `jal` is found by its text.
 pub spelled_jal : IsSpelled m.Jal
 spelled_jal = (refl, refl, refl)
 
+-- `jalr` is found by its text.
 pub spelled_jalr : IsSpelled m.Jalr
 spelled_jalr = (refl, refl, refl)
 
+-- `.word` is found by its text.
 pub spelled_word : IsSpelled m.Word
 spelled_word = (refl, refl, refl)
 
@@ -104,11 +83,12 @@ there (Some k) n h = ap (λ (j : ℕ). Some j) (eqb-true k n h)
 pub named_back : (r : ℕ) → r < 32 → named (plain_name r) ≡ Some r
 named_back r l = there (named (plain_name r)) r (agree_below_at (λ r. is_there (named (plain_name r)) r) (λ r. true) 32 r refl l)
 
-pub name_words : (r : ℕ) → r < 32 → list_all is_word (plain_name r) ≡ true
+name_words : (r : ℕ) → r < 32 → list_all is_word (plain_name r) ≡ true
 name_words r l = agree_below_at (λ r. list_all is_word (plain_name r)) (λ r. true) 32 r refl l
 
-pub name_some : (r : ℕ) → r < 32 → 0 < length (plain_name r)
+name_some : (r : ℕ) → r < 32 → 0 < length (plain_name r)
 name_some r l = ltb-true 0 (length (plain_name r)) (agree_below_at (λ r. nat_lt 0 (length (plain_name r))) (λ r. true) 32 r refl l)
 
+-- A register's plain name is an operand.
 pub name_operand : (r : ℕ) → r < 32 → IsOperand (plain_name r)
 name_operand r l = record { solid = solid_of (plain_name r) (name_words r l); some = name_some r l }

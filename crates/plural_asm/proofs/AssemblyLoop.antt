@@ -16,10 +16,10 @@ use Rattle.plural_statement.specs.declared.statement.KernelLine.{KernelLine}
 use Rattle.plural_asm.specs.declared.offset.Offset.{Offset}
 use Rattle.plural_asm.specs.declared.object.Label.{Label}
 use Rattle.plural_asm.specs.declared.object.AsmKind.{AsmKind}
-use Rattle.plural_asm.proofs.Placed.{known_more, place_more}
-use Rattle.plural_asm.proofs.Listed.{gathered_push}
+use Rattle.plural_asm.proofs.LabelPlaces.{known_more, place_more}
+use Rattle.plural_asm.proofs.LineSums.{gathered_push}
 
--- what is known behind some of all lines
+-- what is known after some of all lines
 pub record Reads (all lines : List TextLine) (earlier : List ℕ → Option ℕ) (here : ℕ) (words : List ℕ) (labels : List Label) : Type 0 where
   pub faultless : IsFaultless (Breaks all) lines
   pub known : (q : List ℕ) → earlier q ≡ place_of lines q
@@ -46,12 +46,14 @@ by_shape xs i d all earlier here words labels n line offset f r c k =
     let o : target_offset all here line.statement ≡ target_offset (λ q. place_of (text_lines xs) q) (place_after before) (line_of (get_or xs i d).text.now).statement = λ j. target_offset (a j) (r.place j) (f.line_is j).statement in
     kind_same earlier (λ q. place_of before q) here (place_after before) n (length (labels_of before)) line (line_of (get_or xs i d).text.now) offset _ e r.place (c ∙ ap length r.marks) f.line_is (f.offset_is ∙ o) k
 
+-- The kind of the first line with a verdict is the first fault.
 pub verdict_first : (xs : List Line) (i : ℕ) (d : Line) (all earlier : List ℕ → Option ℕ) (here : ℕ) (words : List ℕ) (labels : List Label) (n : ℕ) (line : KernelLine) (offset : Option Offset) (kind : AsmKind) → Facts xs i d all here line offset
     → Reads (text_lines xs) (text_lines (take i xs)) earlier here words labels → n ≡ length labels → IsVerdict earlier here n line offset (Some kind) → IsFirstFault rank (Breaks (text_lines xs)) (text_lines xs) (get_or xs i d).number kind
 verdict_first xs i d all earlier here words labels n line offset kind f r c v =
     let same = by_shape xs i d all earlier here words labels n line offset f r c in
     first_fault rank (Breaks (text_lines xs)) text_line xs i d kind f.inside r.faultless (rw (sym (same kind)) v.0) (λ k b. v.1 k (rw (sym (same k)) at b))
 
+-- What is known after one more line without a fault.
 pub reads_more : (xs : List Line) (i : ℕ) (d : Line) (all earlier next : List ℕ → Option ℕ) (here size : ℕ) (words more : List ℕ) (labels marks : List Label) (n : ℕ) (line : KernelLine) (offset : Option Offset) → Facts xs i d all here line offset
     → Reads (text_lines xs) (text_lines (take i xs)) earlier here words labels → n ≡ length labels → IsVerdict earlier here n line offset None
     → ((q : List ℕ) → next q ≡ noted (earlier q) (is_option line.label q) here) → more ≡ words ++ words_at all here line.statement → marks ≡ labels ++ label_at here line.label → size ≡ words_in line.statement

@@ -16,6 +16,7 @@ use Rattle.plural_base.proofs.ListTests.{found_at, found_none}
 use Rattle.plural_statement.specs.Statement.{label_of}
 use Rattle.plural_asm.specs.Labels.{size_of, is_option, has_label, place_after, place_of, noted}
 
+-- One more line adds its words to the place after the lines.
 pub place_after_push : (ls : List TextLine) (l : TextLine) → place_after (ls ++ l ∷ []) ≡ place_after ls + size_of l.1
 place_after_push ls l = sum_by-append (λ x. size_of x.1) ls (l ∷ []) ∙ omega arith
 
@@ -49,12 +50,14 @@ last ls l q false e h =
     let old = found_none p ls h in
     rw (new, old, e) refl
 
+-- One more line gives its label a place, if the label has none.
 pub place_of_push : (ls : List TextLine) (l : TextLine) (q : List ℕ) → place_of (ls ++ l ∷ []) q ≡ noted (place_of ls q) (has_label q l) (place_after ls)
 place_of_push ls l q = elim (cases_lt (position_or_len (has_label q) ls) (length ls)) [
   | inl lt ↦ earlier ls l q lt
   | inr le ↦ last ls l q (has_label q l) refl le
 ]
 
+-- A map with one more label knows what was known, and the label.
 pub noted_at : (old new : Option ℕ) (name q : List ℕ) (place : ℕ) → new ≡ cond (is_eq (slice_cmp nat_cmp name q)) (Some place) old → (bytes_eq name q ≡ true → is_some old ≡ false) → new ≡ noted old (bytes_eq name q) place
 noted_at old new name q place e none = e ∙ rw (is_eq-slice_cmp name q) (by old (bytes_eq name q) none)
   where
@@ -64,14 +67,17 @@ noted_at old new name q place e none = e ∙ rw (is_eq-slice_cmp name q) (by old
     by (Some p) true n = absurd (let f : true ≡ false = n refl in cc)
     by (Some p) false n = refl
 
+-- Another label leaves what is known.
 pub noted_false : (old : Option ℕ) (place : ℕ) → noted old false place ≡ old
 noted_false None place = refl
 noted_false (Some p) place = refl
 
+-- What is known after one more line.
 pub known_more : (xs : List Line) (i : ℕ) (d : Line) (q : List ℕ) (old : Option ℕ) (here : Bool) (place : ℕ) → i < length xs → old ≡ place_of (text_lines (take i xs)) q → place ≡ place_after (text_lines (take i xs))
     → is_option (label_of (get_or xs i d).text.now) q ≡ here → noted old here place ≡ place_of (text_lines (take (i + 1) xs)) q
 known_more xs i d q old here place l o p h =
     rw (o, p, ← h) (sym (ap (λ ls. place_of ls q) (map_more text_line xs i d l) ∙ place_of_push (text_lines (take i xs)) (text_line (get_or xs i d)) q))
 
+-- The place after one more line.
 pub place_more : (xs : List Line) (i : ℕ) (d : Line) (place : ℕ) → i < length xs → place ≡ place_after (text_lines (take i xs)) → place + size_of (get_or xs i d).text.now ≡ place_after (text_lines (take (i + 1) xs))
 place_more xs i d place l p = rw p (sym (ap place_after (map_more text_line xs i d l) ∙ place_after_push (text_lines (take i xs)) (text_line (get_or xs i d))))
