@@ -23,7 +23,7 @@ const LINES: [&str; 15] = [
     "00000000: 00000007 00000023",
 ];
 
-/// The first lines of the smallest bundle with this line end behind each.
+/// The first lines of the smallest bundle with this line end after each.
 fn front(alloc: Global, lines: usize, line_end: &str) -> Result<Vec<u8>, AllocError> {
     let mut text = Vec::new(alloc);
     for line in LINES.iter().take(lines) {

@@ -4,8 +4,7 @@ use plural_generator::make;
 use std::test::*;
 
 /// The map lines of the large size.
-fn map_lines() -> &'static [u8] {
-    b"memory 32816
+const MAP_LINES: &str = "memory 32816
 cache 16 2
 task fir dup 1024 entry fir budget 10000
 read 0 16 31
@@ -32,12 +31,10 @@ after quiet any
 read 32809 0 1
 read 32811 0 1
 write 32812 0 1
-"
-}
+";
 
 /// The kernel lines of the large size.
-fn kernel_lines() -> &'static [u8] {
-    b"fir: slli x5, x10, 6
+const KERNEL_LINES: &str = "fir: slli x5, x10, 6
 li x6, 65664
 add x6, x6, x5
 li x15, 65600
@@ -106,18 +103,16 @@ add x6, x6, x6
 add x6, x6, x7
 sw x6, 12(x5)
 ecall
-"
-}
+";
 
 /// The last lines for the seed 1: the last samples, the taps, the limit.
-fn last_lines() -> &'static [u8] {
-    b"00004008: 00000f82 00000462 00000b69 00000f9d 00000b3c 00000016 00000fe6 00000000
+const LAST_LINES: &str =
+    "00004008: 00000f82 00000462 00000b69 00000f9d 00000b3c 00000016 00000fe6 00000000
 00004010: 0000000c 00000003 00000003 00000008 00000004 00000003 00000008 00000003
 00004018: 0000000a 00000009 00000002 00000009 0000000e 0000000f 00000009 0000000d
 00008028: 00000000 00000000 000cf982 00000000 00000000 00000000 00000000 00000000
 [end]
-"
-}
+";
 
 /// The text for a seed.
 fn text(rt: &HostRuntime, seed: u64) -> Result<Vec<u8>, Fail> {
@@ -137,16 +132,16 @@ fn digest(text: &[u8]) -> u64 {
 fn the_text_is_the_template_filled_in(rt: HostRuntime) -> Result<(), Fail> {
     let text = text(&rt, 1)?;
     let mut front = Vec::from_slice(rt.alloc(), b"plural 1\n[map]\n")?;
-    front.extend_from_slice(map_lines())?;
+    front.extend_from_slice(MAP_LINES.as_bytes())?;
     front.extend_from_slice(b"[kernels]\n")?;
-    front.extend_from_slice(kernel_lines())?;
+    front.extend_from_slice(KERNEL_LINES.as_bytes())?;
     front.extend_from_slice(
         b"[image]\n00000000: 00000be6 000003ee 00000751 000001c0 00000e3b 00000ee8 00000f38 00000dc0\n",
     )?;
     assert_eq!(rt; front.len(), 1640);
     assert!(rt; text.starts_with(&front));
     assert_eq!(rt; text.len(), 169_910);
-    assert!(rt; text.ends_with(last_lines()));
+    assert!(rt; text.ends_with(LAST_LINES.as_bytes()));
     Ok(())
 }
 

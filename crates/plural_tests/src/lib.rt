@@ -1,8 +1,10 @@
-//! Tests of what no row of `plural_rows` shows: what isn't reached from a command line, sources and sinks that fail, and
-//! bytes that a row can't spell. A file has the name of the crate that it tests, but for those on the public call: `cut`
-//! tries it over inputs that end too early, `outside` over sources and sinks that fail. `adapters` has readers and
-//! writers for the sources and sinks of `plural_bytes`, `told` a bus and a port that tell the store to come; `trial` is
-//! what the tests share.
+//! Tests of what no row of `plural_rows` shows: what isn't reached from a command line, sources and sinks that fail,
+//! bytes that a row can't spell, and inputs that are too long for a row.
+//!
+//! A file has the name of the crate that it tests, but for those on the public call: `cut` tries it over inputs that
+//! end too early, `limits` over inputs at their limits, `outside` over sources and sinks that fail. `adapters` has
+//! readers and writers for the sources and sinks of `plural_bytes`, `told` a bus and a port that tell the store to come.
+//! `trial` is what the tests share.
 //!
 //! Promise: nothing but tests. They stand in one crate, since a crate with tests is proved twice, and since a program
 //! of tests begins with a check of all that it stands on.
@@ -18,6 +20,8 @@ mod cache;
 mod cut;
 #[cfg(test)]
 mod generator;
+#[cfg(test)]
+mod limits;
 #[cfg(test)]
 mod map;
 #[cfg(test)]

@@ -52,10 +52,10 @@ fn a_task_is_decided_by_its_predecessors(rt: HostRuntime) -> Result<(), Fail> {
 
 #[test]
 fn a_map_is_printed_in_canonical_lines(rt: HostRuntime) -> Result<(), Fail> {
-    let text =
-        b"memory 0x10\ncache 2 4\ntask  a regular entry e budget 09\nwrite 0 0 1\ntask b dup 3 entry e budget 7\nread 8 1 2 # late\nafter a 1\n";
-    let want =
-        b"memory 16\ncache 2 4\ntask a regular entry e budget 9\nwrite 0 0 1\ntask b dup 3 entry e budget 7\nafter a 1\nread 8 1 2\n";
+    let text = b"memory 0x10\ncache 2 4\ntask  a regular entry e budget 09\nwrite 0 0 1\n\
+        task b dup 3 entry e budget 7\nread 8 1 2 # late\nafter a 1\n";
+    let want = b"memory 16\ncache 2 4\ntask a regular entry e budget 9\nwrite 0 0 1\n\
+        task b dup 3 entry e budget 7\nafter a 1\nread 8 1 2\n";
     let map = map_of(rt.alloc(), text)?;
     let printed = print(rt.alloc(), &map).ok().ok_or("a text")?;
     assert_eq!(rt; printed.as_slice(), want.as_slice());

@@ -37,10 +37,7 @@ fn the_65537th_entry_is_one_too_many(rt: HostRuntime) -> Result<(), Fail> {
         return Err("too many lines".into());
     }
     match read_output(rt.alloc(), &map, &lines, 99_999) {
-        Err(BundleError::At { line, kind }) => assert_eq!(rt;
-            (line, kind),
-            (65_539, Fault::Count)
-        ),
+        Err(BundleError::At { line, kind }) => assert_eq!(rt; (line, kind), (65_539, Fault::Count)),
         _ => return Err("a fault".into()),
     }
     Ok(())

@@ -81,7 +81,7 @@ fn run_of(base: u32, stride: u32, count: u32) -> Region
     }
 }
 
-/// What `meet` and the scan answer, which has to be the same, where the words of the instances are few enough.
+/// What `meet` and the scan answer, which has to be the same, if the words of the instances are few enough.
 fn met(r: &Region, q1: u32, s: &Region, q2: u32, same_task: bool) -> (Option<Meet>, Option<Meet>)
     requires first { q1 ≤ 16384 }
     requires second { q2 ≤ 16384 }

@@ -41,7 +41,7 @@ pub(crate) fn open_sink(alloc: Global) -> Result<MemSink, Fail> {
     Ok(sink.ok().ok_or("a sink")?)
 }
 
-/// The status and the text that the program answers to an input, where nothing outside fails.
+/// The status and the text that the program answers to an input, if nothing outside fails.
 pub(crate) fn answered<R: Threads + Sync>(
     rt: &R,
     alloc: Global,
