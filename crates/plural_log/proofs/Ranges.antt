@@ -24,21 +24,21 @@ pub record IsInRange (k : ℕ) (e : EndShape) (c : Counts) (t : Times) : Type 0 
 
 counts_fit : (c : Counts) → has_large_count c ≡ false → (c.instructions < 4294967296) × (c.loads < 4294967296) × (c.misses < 4294967296) × (c.stores < 4294967296)
 counts_fit c h =
-    let a = neither (is_large c.instructions) (is_large c.loads || is_large c.misses || is_large c.stores) h in
-    let b = neither (is_large c.loads) (is_large c.misses || is_large c.stores) a.1 in
-    let d = neither (is_large c.misses) (is_large c.stores) b.1 in
-    (fits c.instructions a.0, fits c.loads b.0, fits c.misses d.0, fits c.stores d.1)
+    let a = neither (is_large c.instructions || is_large c.loads || is_large c.misses) (is_large c.stores) h in
+    let b = neither (is_large c.instructions || is_large c.loads) (is_large c.misses) a.0 in
+    let d = neither (is_large c.instructions) (is_large c.loads) b.0 in
+    (fits c.instructions d.0, fits c.loads d.1, fits c.misses b.1, fits c.stores a.1)
 
 times_fit : (t : Times) → has_large_time t ≡ false → (t.core < 4294967296) × (t.start < 4294967296) × (t.end_at < 4294967296)
 times_fit t h =
-    let a = neither (is_large t.core) (is_large t.start || is_large t.end_at) h in
-    let b = neither (is_large t.start) (is_large t.end_at) a.1 in
-    (fits t.core a.0, fits t.start b.0, fits t.end_at b.1)
+    let a = neither (is_large t.core || is_large t.start) (is_large t.end_at) h in
+    let b = neither (is_large t.core) (is_large t.start) a.0 in
+    (fits t.core b.0, fits t.start b.1, fits t.end_at a.1)
 
 -- A line without a fault of number has its numbers in their ranges.
 pub run_fits : (name : List ℕ) (k : ℕ) (e : EndShape) (c : Counts) (t : Times) → is_out_of_range (line.Run name k e c t) ≡ false → IsInRange k e c t
 run_fits name k e c t h =
-    let a = neither (is_large k) (is_no_end e || has_large_count c || has_large_time t) h in
-    let b = neither (is_no_end e) (has_large_count c || has_large_time t) a.1 in
-    let d = neither (has_large_count c) (has_large_time t) b.1 in
-    record { number = fits k a.0; ended = b.0; counts = counts_fit c d.0; times = times_fit t d.1 }
+    let a = neither (is_large k || is_no_end e || has_large_count c) (has_large_time t) h in
+    let b = neither (is_large k || is_no_end e) (has_large_count c) a.0 in
+    let d = neither (is_large k) (is_no_end e) b.0 in
+    record { number = fits k d.0; ended = d.1; counts = counts_fit c b.1; times = times_fit t a.1 }

@@ -12,6 +12,7 @@ use Rattle.plural_map_text.specs.Parts.{parts_of, whole, map_of, with_line, noth
 use Rattle.plural_map_text.specs.declared.fault.MapKind as map_fault
 use Rattle.plural_map_text.specs.declared.fault.MapKind.TheVariants as map_kind
 use Rattle.plural_image.specs.Shape.{image_line}
+use Rattle.plural_sections.specs.LineKinds.{KindsOf}
 use Rattle.plural_image.specs.Image as image
 use Rattle.plural_image.specs.Image.{end_of, end_before, IsMisplaced, overwritten, image_of}
 use Rattle.plural_image.specs.declared.fault.ImageKind.TheVariants as image_kind
@@ -102,10 +103,9 @@ closed_again lines others end last e = map-append (λ (l : TextLine). l.1) lines
 
 -- The rule of image lines reads texts alone.
 pub image_reads : (words : ℕ) → ReadsTexts (image.Breaks words)
-image_reads words before other text image_kind.Form e b = b
-image_reads words before other text image_kind.Address e b =
+image_reads words before other text kind e b =
     let ends : end_before before ≡ end_before other = fold_again (λ _ t. end_of t) 0 before other e in
-    subst (λ n. IsSomeAnd (image_line text) (IsMisplaced words n)) ends b
+    subst (λ n. KindsOf image_kind.Form (image.HasKind words n) (image_line text) kind) ends b
 
 -- Lines of the same texts spell the same image.
 pub image_again : (words : ℕ) (lines others : List TextLine) → texts lines ≡ texts others → image_of words lines ≡ image_of words others
