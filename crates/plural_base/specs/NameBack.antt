@@ -8,5 +8,6 @@ pub fields_back : (n : Inside) → IsKept n → fields_of (name_bytes n) ≡ n
 fields_back n h =
     let inside : n.len ≤ length n.bytes = rw h.full h.short in
     let len : length (take n.len n.bytes) ≡ n.len = length-take-le n.len n.bytes inside in
-    let bytes : take n.len n.bytes ++ replicate (24 - length (take n.len n.bytes)) 0 ≡ n.bytes = rw (len, ← h.padded) (take-append-drop n.len n.bytes) in
+    let bytes : take n.len n.bytes ++ replicate (24 - length (take n.len n.bytes)) 0 ≡ n.bytes =
+    rw (len, ← h.padded) (take-append-drop n.len n.bytes) in
     λ i. record { bytes = bytes i; len = len i }

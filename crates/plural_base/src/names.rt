@@ -1,6 +1,6 @@
 //! Names of tasks and labels.
 
-ghost use Rattle.std.specs.Prelude.{◌≡◌, IsTrue, bytes_eq, nat_eq};
+ghost use Rattle.std.specs.Prelude.{◌≡◌, bytes_eq};
 ghost use Rattle.std.proofs.Common.{rules};
 ghost use Rattle.std.specs.List.{list_all};
 ghost use Rattle.std.specs.Cmp.{partial_order_from_own_ties};

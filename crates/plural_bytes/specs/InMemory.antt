@@ -2,7 +2,8 @@
 use Rattle.std.specs.Prelude.{ℕ, Bool, List, ◌==◌}
 use Rattle.std.specs.List.{list_any}
 
--- What a source in memory has: the bytes left, at most how many it gives in a call, the numbers of the calls that fail, and how many calls and failures there were.
+-- What a source in memory has: the bytes left, at most how many it gives in a call, the numbers of the calls that
+-- fail, and how many calls and failures there were.
 pub record Supply : Type 0 where
   pub left : List ℕ
   pub piece : ℕ
@@ -10,7 +11,8 @@ pub record Supply : Type 0 where
   pub calls : ℕ
   pub faults : ℕ
 
--- What a sink in memory has: the bytes taken, how many it takes in all and at most in a call, the numbers of the calls that fail, and how many calls and failures there were.
+-- What a sink in memory has: the bytes taken, how many it takes in all and at most in a call, the numbers of the
+-- calls that fail, and how many calls and failures there were.
 pub record Drain : Type 0 where
   pub holds : List ℕ
   pub room : ℕ

@@ -22,4 +22,5 @@ is_plain c = c == 9 || is_printable c
 
 -- A line whose tokens have printable bytes alone has plain bytes alone.
 abbrev pub TokensArePlain : Type 0
-TokensArePlain = (text : List ℕ) → IsTrue (list_all (λ t. list_all is_printable t) (tokens text)) → IsTrue (list_all is_plain text)
+TokensArePlain = (text : List ℕ) → IsTrue (list_all (λ t. list_all is_printable t) (tokens text))
+    → IsTrue (list_all is_plain text)

@@ -23,7 +23,8 @@ is_hash c = c == HASH
 abbrev pub is_blank : ℕ → Bool
 is_blank c = c == 32 || c == 9
 
--- The lines of a text are the pieces that it is cut into at each LF; a last piece without one counts where it isn't empty.
+-- The lines of a text are the pieces that it is cut into at each LF; a last piece without one counts where it isn't
+-- empty.
 abbrev pub pieces : List ℕ → List (List ℕ)
 pieces [] = []
 pieces (c ∷ cs) = if is_line_end c then [] ∷ pieces cs else onto_first c (pieces cs)
@@ -41,7 +42,8 @@ drop_while p (c ∷ cs) = if p c then drop_while p cs else c ∷ cs
 abbrev pub trimmed : List ℕ → List ℕ
 trimmed text = reverse (drop_while is_blank (reverse (drop_while is_blank text)))
 
--- The content of a line is what is left without the CR at its end, the first `#` with all that follows it, and outer blanks.
+-- The content of a line is what is left without the CR at its end, the first `#` with all that follows it, and outer
+-- blanks.
 abbrev pub content : List ℕ → List ℕ
 content piece = trimmed (before_first is_hash (without_cr piece))
 

@@ -1,6 +1,6 @@
 //! Sources and sinks over std's readers and writers: the trusted edge.
 
-ghost use Rattle.std.specs.Prelude.{◌≡◌, ◌<◌, ◌≤◌, IfOk};
+ghost use Rattle.std.specs.Prelude.{◌≡◌, ◌<◌, IfOk};
 ghost use Rattle.std.specs.Io.{ReadsAtMost};
 ghost use Rattle.plural_bytes.specs.Causes.{HasCause};
 ghost use Rattle.plural_bytes.specs.Streams.{Reads, Writes, IsPart};

@@ -1,6 +1,6 @@
 //! A source and a sink in memory, which fail when they are told to.
 
-ghost use Rattle.std.specs.Prelude.{◌≡◌, ◌<◌, ◌≤◌, ◌+◌, ◌-◌, ◌↔◌, ◌⊎◌, ℕ, IsTrue, List, [], ◌++◌, Some, IfOk, length, take, drop, min, vec_len, vec_capacity};
+ghost use Rattle.std.specs.Prelude.{◌≡◌, ◌<◌, ◌≤◌, ◌+◌, ◌-◌, ◌↔◌, ◌⊎◌, IsTrue, [], ◌++◌, Some, IfOk, length, take, drop, min, vec_len, vec_capacity};
 ghost use Rattle.std.specs.Result.{IsErr};
 ghost use Rattle.std.specs.Io.{ReadsAtMost};
 ghost use Rattle.plural_bytes.specs.Causes.{one_more, HasCause};
@@ -30,7 +30,13 @@ impl Model for MemSource {
 
     ghost Value = { Supply };
 
-    ghost view = { λ s. record { left = drop s.at s.bytes.items; piece = s.piece; fail = s.fail.items; calls = s.calls; faults = s.faults } };
+    ghost view = { λ s. record {
+      left = drop s.at s.bytes.items;
+      piece = s.piece;
+      fail = s.fail.items;
+      calls = s.calls;
+      faults = s.faults;
+    } };
 
     ghost invariant = { λ s. (s.at ≤ vec_len s.bytes) × (0 < s.piece) × (s.fail.items ≡ [] → s.faults ≡ 0) };
 }
@@ -126,7 +132,14 @@ impl Model for MemSink {
 
     ghost Value = { Drain };
 
-    ghost view = { λ s. record { holds = s.bytes.items; room = s.room; piece = s.piece; fail = s.fail.items; calls = s.calls; faults = s.faults } };
+    ghost view = { λ s. record {
+      holds = s.bytes.items;
+      room = s.room;
+      piece = s.piece;
+      fail = s.fail.items;
+      calls = s.calls;
+      faults = s.faults;
+    } };
 
     ghost invariant = { λ s. (vec_len s.bytes ≤ s.room) × (s.room ≤ vec_capacity s.bytes) × (0 < s.piece) };
 }
@@ -137,7 +150,8 @@ impl MemSink {
     /// call that finds the room full.
     pub fn new(alloc: Global, room: usize, piece: usize, fail: Vec<u32>) -> Result<MemSink, Memory>
         requires { 1 ≤ piece }
-        ensures { IfOk result (λ s. s ≡ record { holds = []; room = room; piece = piece; fail = fail.items; calls = 0; faults = 0 }) }
+        ensures { IfOk result (λ s. s ≡
+            record { holds = []; room = room; piece = piece; fail = fail.items; calls = 0; faults = 0 }) }
     {
         let bytes = Vec::with_capacity(alloc, room)?;
         Ok(MemSink {
@@ -201,11 +215,14 @@ impl Sink for MemSink {
         ensures bound { IfOk result (λ n. IsPart n from.now) }
         ensures bytes { Writes (Some self.old.holds) (Some self.new.holds) result from.now }
         ensures cause { HasCause self.old.faults self.new.faults result }
-        ensures fails { IsErr result ↔ IsTrue (is_listed self.old.fail self.old.calls) ⊎ (self.old.room ≤ length self.old.holds) }
-        ensures amount { IfOk result (λ n. n ≡ min (min self.old.piece (length from.now)) (self.old.room - length self.old.holds)) }
+        ensures fails { IsErr result ↔ IsTrue (is_listed self.old.fail self.old.calls)
+            ⊎ (self.old.room ≤ length self.old.holds) }
+        ensures amount { IfOk result (λ n. n ≡
+            min (min self.old.piece (length from.now)) (self.old.room - length self.old.holds)) }
         ensures refused { IsErr result → self.new.holds ≡ self.old.holds }
         ensures counted { self.new.calls ≡ one_more self.old.calls }
-        ensures kept { (self.new.room ≡ self.old.room) × (self.new.piece ≡ self.old.piece) × (self.new.fail ≡ self.old.fail) }
+        ensures kept { (self.new.room ≡ self.old.room) × (self.new.piece ≡ self.old.piece)
+            × (self.new.fail ≡ self.old.fail) }
     {
         let call = self.begin_call();
         if is_listed(&self.fail, call) || self.bytes.len() == self.room {

@@ -1,9 +1,9 @@
 //! The lines of a text, and the tokens of a line.
 
-ghost use Rattle.std.specs.Prelude.{◌≡◌, ◌+◌, ◌*◌, ◌<◌, ◌≤◌, [], ◌∷◌, length, drop, map, position, IfOk, IfSome, MatchOption, reverse};
+ghost use Rattle.std.specs.Prelude.{◌≡◌, ◌+◌, ◌*◌, ◌<◌, ◌≤◌, [], ◌∷◌, length, position, IfOk, IfSome, MatchOption, reverse};
 ghost use Rattle.std.specs.List.{before_first, after_first};
 ghost use Rattle.plural_bytes.specs.Spelled.{text_lines};
-ghost use Rattle.plural_bytes.specs.Lines.{pieces, is_line_end, is_hash, is_blank, without_cr, drop_while, trimmed, content, content_lines, tokens};
+ghost use Rattle.plural_bytes.specs.Lines.{pieces, is_line_end, is_hash, is_blank, without_cr, drop_while, content, content_lines, tokens};
 
 use memchr::{memchr, memchr_iter};
 use plural_base::Memory;

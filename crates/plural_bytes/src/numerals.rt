@@ -1,6 +1,6 @@
 //! Numerals of any length.
 
-ghost use Rattle.std.specs.Prelude.{◌≡◌, ℕ, ◌+◌, ◌*◌, ◌<◌, ◌≤◌, ⊤, length, option_map, MatchOption};
+ghost use Rattle.std.specs.Prelude.{◌≡◌, ℕ, ◌+◌, ◌*◌, ◌<◌, ◌≤◌, ⊤, option_map, MatchOption};
 ghost use Rattle.plural_bytes.specs.Numerals.{bounded, spelled, numeral, within};
 
 /// Why a text is no number.

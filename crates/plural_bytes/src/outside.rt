@@ -1,6 +1,6 @@
 //! What can fail without any fault of an input: memory, where bytes come from, where they go.
 
-ghost use Rattle.std.specs.Prelude.{◌≡◌, ◌<◌, ◌≤◌, List, ℕ, Option, IfOk, length};
+ghost use Rattle.std.specs.Prelude.{◌<◌, List, ℕ, Option, IfOk};
 ghost use Rattle.std.specs.Io.{ReadsAtMost};
 ghost use Rattle.plural_bytes.specs.Causes.{HasCause};
 ghost use Rattle.plural_bytes.specs.Streams.{Reads, Writes, IsPart};

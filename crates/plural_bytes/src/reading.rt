@@ -1,6 +1,6 @@
 //! Reading all that a source has left.
 
-ghost use Rattle.std.specs.Prelude.{◌≡◌, ◌<◌, ◌≤◌, ◌↔◌, ◌⊎◌, List, ℕ, Option, IfOk, OnOk, length};
+ghost use Rattle.std.specs.Prelude.{◌≡◌, ◌<◌, ◌≤◌, ◌↔◌, ◌⊎◌, List, ℕ, IfOk, OnOk, length};
 ghost use Rattle.std.specs.Result.{IsErrOf};
 ghost use Rattle.std.specs.Io.KnownBytes.{Consumes, IsAtEnd};
 ghost use Rattle.plural_bytes.specs.Causes.{Rose};
@@ -26,7 +26,8 @@ pub fn read_all<S: Source>(alloc: Global, source: &mut S, limit: u32) -> Result<
     ensures all { IfOk result (λ v. Consumes (S.left source.old) (S.left source.new) v.items) }
     ensures end { OnOk result (IsAtEnd (S.left source.new)) }
     ensures short { IfOk result (λ v. length v.items ≤ limit) }
-    ensures too_long { (bytes : List ℕ) × Consumes (S.left source.old) (S.left source.new) bytes × (IsErrOf result ReadError.TooLong ↔ limit < length bytes) }
+    ensures too_long { (bytes : List ℕ) × Consumes (S.left source.old) (S.left source.new) bytes
+        × (IsErrOf result ReadError.TooLong ↔ limit < length bytes) }
     ensures fault { IsErrOf result ReadError.Fault → Rose (S.faults source.old) (S.faults source.new) }
     ensures unfailed { IsErrOf result ReadError.Fault ⊎ (S.faults source.new ≡ S.faults source.old) }
 {

@@ -27,7 +27,8 @@ fn load_absent<B: Bus>(set: &mut Set, ways: usize, bus: &mut B, a: u32) -> u32
     requires room { (B.counts bus.old).reads < 2 ^ 61 }
     ensures order { set.new ≡ loaded false ways (a / 8) (front set.new) set.old }
     ensures value { result ≡ slice_index (front set.new) (a % 8) }
-    ensures words { (w : ℕ) → w < 8 → (B.told bus.old).lawful (8 * (a / 8) + w) ≡ true → slice_index (front set.new) w ≡ slice_index (B.told bus.old).words (8 * (a / 8) + w) }
+    ensures words { (w : ℕ) → w < 8 → (B.told bus.old).lawful (8 * (a / 8) + w) ≡ true
+        → slice_index (front set.new) w ≡ slice_index (B.told bus.old).words (8 * (a / 8) + w) }
     ensures step { Reads B.told B.counts B.keeps B.is_sound 8 bus.old bus.new }
 {
     let line = a / 8;
@@ -45,9 +46,12 @@ pub fn load_in<B: Bus>(set: &mut Set, ways: usize, bus: &mut B, a: u32) -> Loade
     requires room { (B.counts bus.old).reads < 2 ^ 61 }
     ensures order { set.new ≡ loaded (is_in (a / 8) (keys set.old)) ways (a / 8) (front set.new) set.old }
     ensures value { result.value ≡ slice_index (front set.new) (a % 8) }
-    ensures words { is_in (a / 8) (keys set.old) ≡ false → (w : ℕ) → w < 8 → (B.told bus.old).lawful (8 * (a / 8) + w) ≡ true → slice_index (front set.new) w ≡ slice_index (B.told bus.old).words (8 * (a / 8) + w) }
+    ensures words { is_in (a / 8) (keys set.old) ≡ false → (w : ℕ) → w < 8
+        → (B.told bus.old).lawful (8 * (a / 8) + w) ≡ true
+        → slice_index (front set.new) w ≡ slice_index (B.told bus.old).words (8 * (a / 8) + w) }
     ensures misses { result.misses ≡ (if is_in (a / 8) (keys set.old) then 0 else 1) }
-    ensures step { Reads B.told B.counts B.keeps B.is_sound (if is_in (a / 8) (keys set.old) then 0 else 8) bus.old bus.new }
+    ensures step { Reads B.told B.counts B.keeps B.is_sound
+        (if is_in (a / 8) (keys set.old) then 0 else 8) bus.old bus.new }
 {
     if set.seek(a / 8) {
         Loaded {

@@ -41,9 +41,24 @@ impl Model for Cache {
 
     ghost Value = { CacheValue };
 
-    ghost view = { λ c. record { sets = c.sets; ways = c.ways; held = c.table.items; loads = c.loads; misses = c.misses; stores = c.stores } };
+    ghost view = { λ c. record {
+      sets = c.sets;
+      ways = c.ways;
+      held = c.table.items;
+      loads = c.loads;
+      misses = c.misses;
+      stores = c.stores;
+    } };
 
-    ghost invariant = { λ c. IsCache (record { sets = c.sets; ways = c.ways; held = c.table.items; loads = c.loads; misses = c.misses; stores = c.stores }) };
+    ghost invariant = { λ c. IsCache
+        (record {
+          sets = c.sets;
+          ways = c.ways;
+          held = c.table.items;
+          loads = c.loads;
+          misses = c.misses;
+          stores = c.stores;
+        }) };
 }
 
 /// This many sets with no line.
@@ -104,7 +119,8 @@ impl Cache {
     /// The counts since the cache was emptied.
     pub fn counts(&self) -> Counts
         ensures all { result ≡ record { loads = self.now.loads; misses = self.now.misses; stores = self.now.stores } }
-        ensures stands { (h : List ℕ) → StandsFor self.now h → (result.loads ≡ length h) × (result.misses ≡ misses_of self.now.sets self.now.ways h) }
+        ensures stands { (h : List ℕ) → StandsFor self.now h → (result.loads ≡ length h)
+            × (result.misses ≡ misses_of self.now.sets self.now.ways h) }
     {
         Counts {
             loads: self.loads,
@@ -149,8 +165,10 @@ impl Cache {
         requires few { self.old.loads < 100000000 }
         ensures value { result ≡ slice_index (B.told bus.old).words a }
         ensures stands { (h : List ℕ) → StandsFor self.old h → StandsFor self.new (h ++ a ∷ []) }
-        ensures reads { (h : List ℕ) → StandsFor self.old h → (B.counts bus.new).reads ≡ (B.counts bus.old).reads + (if hits self.old.sets self.old.ways h a then 0 else 8) }
-        ensures step { Reads B.told B.counts B.keeps B.is_sound (if is_present self.old a then 0 else 8) bus.old bus.new }
+        ensures reads { (h : List ℕ) → StandsFor self.old h → (B.counts bus.new).reads ≡ (B.counts bus.old).reads
+            + (if hits self.old.sets self.old.ways h a then 0 else 8) }
+        ensures step { Reads B.told B.counts B.keeps B.is_sound
+            (if is_present self.old a then 0 else 8) bus.old bus.new }
         ensures misses { self.new.misses ≡ self.old.misses + (if is_present self.old a then 0 else 1) }
         ensures agrees { Agrees self.new (B.told bus.new) }
         ensures loads { self.new.loads ≡ self.old.loads + 1 }

@@ -114,4 +114,6 @@ by_row (Some m) w x pc = effect m w x pc
 -- The effect of the instruction at pc; a pc past the code traps with cause 1.
 unfoldable pub act : (code x : List ℕ) → ℕ → Act
 act code x pc =
-    if nat_lt pc (4 * length code) then by_row (operation_of (slice_index code (pc / 4))) (slice_index code (pc / 4)) x pc else Trap 1
+    if nat_lt pc (4 * length code)
+    then by_row (operation_of (slice_index code (pc / 4))) (slice_index code (pc / 4)) x pc
+    else Trap 1

@@ -29,5 +29,6 @@ part_of Word sign word address = word
 abbrev pub merged : Width → ℕ → ℕ → ℕ → ℕ
 merged Byte word address value = from_le_bytes w32 (slice_set (to_le_bytes w32 word) (address % 4) (value % 256))
 merged Half word address value =
-    from_le_bytes w32 (slice_set (slice_set (to_le_bytes w32 word) (address % 4) (value % 256)) ((address + 1) % 4) (value / 256 % 256))
+    from_le_bytes w32 (slice_set (slice_set (to_le_bytes w32 word) (address % 4) (value % 256)) ((address + 1) % 4)
+    (value / 256 % 256))
 merged Word word address value = value

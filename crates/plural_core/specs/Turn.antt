@@ -45,7 +45,12 @@ going p s x pc = record { registers = x; pc = pc; count = s.count + 1; over = sp
 
 -- An instruction traps with this cause: nothing changes but the end, which has the pc.
 abbrev pub trapped : State → List ℕ → ℕ → Step
-trapped s m cause = record { state = record s { over = Some (end.Trap cause s.pc) }; memory = m; loads = []; stores = [] }
+trapped s m cause = record {
+  state = record s { over = Some (end.Trap cause s.pc) };
+  memory = m;
+  loads = [];
+  stores = [];
+}
 
 -- A load completes: one load access to the word, and its part in register rd.
 abbrev pub loaded : Place → State → List ℕ → ℕ → Width → Bool → ℕ → Step
@@ -82,7 +87,12 @@ code_of (suc n) = end.Code1
 abbrev pub finished : State → List ℕ → Step
 finished s m =
     if nat_le (get s.registers 10) 1 then
-    record { state = record s { count = s.count + 1; over = Some (code_of (get s.registers 10)) }; memory = m; loads = []; stores = [] }
+    record {
+      state = record s { count = s.count + 1; over = Some (code_of (get s.registers 10)) };
+      memory = m;
+      loads = [];
+      stores = [];
+    }
     else trapped s m 9
 
 -- What an effect does under the guard: a load traps with cause 4 where it isn't aligned and 5 where its word may not
@@ -127,7 +137,12 @@ outcome_of (Some e) = outcome.Over e
 abbrev pub start_of : (entry k q budget : ℕ) → Core
 start_of entry k q budget =
     record {
-      state = record { registers = slice_set (slice_set (replicate 32 0) 10 k) 11 q; pc = entry; count = 0; over = None };
+      state = record {
+        registers = slice_set (slice_set (replicate 32 0) 10 k) 11 q;
+        pc = entry;
+        count = 0;
+        over = None;
+      };
       k = k;
       budget = budget;
     }

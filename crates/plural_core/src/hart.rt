@@ -55,9 +55,14 @@ impl Model for Hart {
 
     ghost Value = { Core };
 
-    ghost view = { λ h. record { state = record { registers = h.registers; pc = h.pc; count = h.count; over = h.over }; k = h.k; budget = h.budget } };
+    ghost view = { λ h. record {
+      state = record { registers = h.registers; pc = h.pc; count = h.count; over = h.over };
+      k = h.k;
+      budget = h.budget;
+    } };
 
-    ghost invariant = { λ h. (h.budget ≤ 100000000) × (h.count ≤ h.budget) × (h.over ≡ None → h.count < h.budget) × (slice_index h.registers 0 ≡ 0) };
+    ghost invariant = { λ h. (h.budget ≤ 100000000) × (h.count ≤ h.budget) × (h.over ≡ None → h.count < h.budget)
+        × (slice_index h.registers 0 ≡ 0) };
 }
 
 /// The effect of the instruction at pc. The word is read for its range alone, which the instruction doesn't tell.
@@ -117,8 +122,10 @@ impl Hart {
         requires lawful { (a : ℕ) → may_read regions.now self.old.k a ≡ true → (P.told port.old).lawful a ≡ true }
         requires loads { (P.counts port.old).reads ≤ self.old.state.count }
         requires stores { (P.counts port.old).writes ≤ self.old.state.count }
-        requires expected { Foresees (P.told port.old).expects (turn_of code.now regions.now self.old (P.told port.old).words).stores }
-        ensures state { self.new ≡ record self.old { state = (turn_of code.now regions.now self.old (P.told port.old).words).state } }
+        requires expected { Foresees (P.told port.old).expects
+            (turn_of code.now regions.now self.old (P.told port.old).words).stores }
+        ensures state { self.new ≡ record self.old
+            { state = (turn_of code.now regions.now self.old (P.told port.old).words).state } }
         ensures port { Makes P.told P.counts P.stands_for P.keeps P.is_sound port.old port.new
             (turn_of code.now regions.now self.old (P.told port.old).words) }
         ensures outcome { result ≡ outcome_of self.new.state.over }
@@ -144,8 +151,10 @@ impl Hart {
         requires lawful { (a : ℕ) → may_read regions.now self.old.k a ≡ true → (P.told port.old).lawful a ≡ true }
         requires loads { (P.counts port.old).reads ≤ self.old.state.count }
         requires stores { (P.counts port.old).writes ≤ self.old.state.count }
-        requires expected { Foresees (P.told port.old).expects (turn_of code.now regions.now self.old (P.told port.old).words).stores }
-        ensures state { self.new ≡ record self.old { state = (turn_of code.now regions.now self.old (P.told port.old).words).state } }
+        requires expected { Foresees (P.told port.old).expects
+            (turn_of code.now regions.now self.old (P.told port.old).words).stores }
+        ensures state { self.new ≡ record self.old
+            { state = (turn_of code.now regions.now self.old (P.told port.old).words).state } }
         ensures port { Makes P.told P.counts P.stands_for P.keeps P.is_sound port.old port.new
             (turn_of code.now regions.now self.old (P.told port.old).words) }
         ensures recent { IsRecent regions.now self.old.k recent.new }
@@ -177,7 +186,8 @@ impl Hart {
     #[inline(always)]
     fn go(&mut self, rd: Reg, value: u32, pc: u32)
         requires { self.old.state.over ≡ None }
-        ensures { self.new ≡ record self.old { state = going (place_of [] [] self.old) self.old.state (put self.old.state.registers rd value) pc } }
+        ensures { self.new ≡ record self.old
+            { state = going (place_of [] [] self.old) self.old.state (put self.old.state.registers rd value) pc } }
     {
         let number = rd.number();
         if number != 0 {
@@ -194,7 +204,8 @@ impl Hart {
     #[inline(always)]
     fn trap(&mut self, cause: u8)
         requires { self.old.state.over ≡ None }
-        ensures { self.new ≡ record self.old { state = record self.old.state { over = Some (trap cause self.old.state.pc) } } }
+        ensures { self.new ≡ record self.old
+            { state = record self.old.state { over = Some (trap cause self.old.state.pc) } } }
     {
         self.over = Some(End::Trap { cause, pc: self.pc });
     }
@@ -231,10 +242,14 @@ impl Hart {
         requires sound { P.is_sound port.old }
         requires lawful { (a : ℕ) → may_read regions.now self.old.k a ≡ true → (P.told port.old).lawful a ≡ true }
         requires loads { (P.counts port.old).reads ≤ self.old.state.count }
-        ensures state { self.new ≡ record self.old { state = (does (place_of [] regions.now self.old) self.old.state (P.told port.old).words (Read load.address load.width load.sign load.rd)).state } }
+        ensures state { self.new ≡ record self.old {
+          state = (does (place_of [] regions.now self.old) self.old.state (P.told port.old).words
+              (Read load.address load.width load.sign load.rd)).state;
+        } }
         ensures recent { IsRecent regions.now self.old.k recent.new }
         ensures port { Makes P.told P.counts P.stands_for P.keeps P.is_sound port.old port.new
-            (does (place_of [] regions.now self.old) self.old.state (P.told port.old).words (Read load.address load.width load.sign load.rd)) }
+            (does (place_of [] regions.now self.old) self.old.state (P.told port.old).words
+            (Read load.address load.width load.sign load.rd)) }
     {
         let Load {
             width,
@@ -269,11 +284,17 @@ impl Hart {
         requires lawful { (a : ℕ) → may_read regions.now self.old.k a ≡ true → (P.told port.old).lawful a ≡ true }
         requires loads { (P.counts port.old).reads ≤ self.old.state.count }
         requires stores { (P.counts port.old).writes ≤ self.old.state.count }
-        requires expected { Foresees (P.told port.old).expects (does (place_of [] regions.now self.old) self.old.state (P.told port.old).words (Write store.address store.width store.value)).stores }
-        ensures state { self.new ≡ record self.old { state = (does (place_of [] regions.now self.old) self.old.state (P.told port.old).words (Write store.address store.width store.value)).state } }
+        requires expected { Foresees (P.told port.old).expects
+            (does (place_of [] regions.now self.old) self.old.state (P.told port.old).words
+            (Write store.address store.width store.value)).stores }
+        ensures state { self.new ≡ record self.old {
+          state = (does (place_of [] regions.now self.old) self.old.state (P.told port.old).words
+              (Write store.address store.width store.value)).state;
+        } }
         ensures recent { IsRecent regions.now self.old.k recent.new }
         ensures port { Makes P.told P.counts P.stands_for P.keeps P.is_sound port.old port.new
-            (does (place_of [] regions.now self.old) self.old.state (P.told port.old).words (Write store.address store.width store.value)) }
+            (does (place_of [] regions.now self.old) self.old.state (P.told port.old).words
+            (Write store.address store.width store.value)) }
     {
         let Store {
             width,

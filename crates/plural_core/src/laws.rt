@@ -15,5 +15,6 @@ pub fn guarded()
 
 /// A life of the whole budget has an end.
 pub fn ends()
-    ensures { (n : ℕ) (p : _) (s : _) (m : _) → s.over ≡ None → s.count + n ≡ p.budget → 0 < n → (e : _) × ((life n p s m).state.over ≡ Some e) }
+    ensures { (n : ℕ) (p : _) (s : _) (m : _) → s.over ≡ None → s.count + n ≡ p.budget → 0 < n
+        → (e : _) × ((life n p s m).state.over ≡ Some e) }
 {}

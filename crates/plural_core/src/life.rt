@@ -21,8 +21,10 @@ pub fn run<P: DataPort>(hart: &mut Hart, code: &Code, regions: &[Region], port: 
     requires lawful { (a : ℕ) → may_read regions.now hart.old.k a ≡ true → (P.told port.old).lawful a ≡ true }
     requires loads { (P.counts port.old).reads ≤ hart.old.state.count }
     requires stores { (P.counts port.old).writes ≤ hart.old.state.count }
-    requires expected { Expects (P.told port.old).expects (rest_of code.now regions.now hart.old (P.told port.old).words).stores }
-    ensures state { hart.new ≡ record hart.old { state = (rest_of code.now regions.now hart.old (P.told port.old).words).state } }
+    requires expected { Expects (P.told port.old).expects
+        (rest_of code.now regions.now hart.old (P.told port.old).words).stores }
+    ensures state { hart.new ≡ record hart.old
+        { state = (rest_of code.now regions.now hart.old (P.told port.old).words).state } }
     ensures port { Makes P.told P.counts P.stands_for P.keeps P.is_sound port.old port.new
         (rest_of code.now regions.now hart.old (P.told port.old).words) }
     ensures end { hart.new.state.over ≡ Some result }

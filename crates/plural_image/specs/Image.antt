@@ -15,7 +15,8 @@ end_of text = option_map_or (λ p. p.0 + length p.1) (image_line text) 0
 abbrev pub end_before : List TextLine → ℕ
 end_before before = fold (λ _ l. end_of l.1) 0 before
 
--- A word of the line would be at w or above, or its first lies below `floor`, the address after the last word of the line before.
+-- A word of the line would be at w or above, or its first lies below `floor`, the address after the last word of the
+-- line before.
 abbrev pub IsMisplaced : ℕ → ℕ → ℕ × List ℕ → Type 0
 IsMisplaced w floor p = (w < p.0 + length p.1) ⊎ (p.0 < floor)
 

@@ -1,4 +1,5 @@
--- The shape of an image line: an address of eight hexadecimal digits and a colon, and one to eight words of eight digits.
+-- The shape of an image line: an address of eight hexadecimal digits and a colon, and one to eight words of eight
+-- digits.
 use Rattle.std.specs.Prelude.{ℕ, ◌&&◌, List, [], ◌∷◌, Option, Some, None, take, length, option_map, option_and_then, slice_index, nat_lt, nat_le, if◌then◌else◌, ◌==◌}
 use Rattle.plural_bytes.specs.Lines.{tokens}
 use Rattle.plural_sections.specs.Numbers.{word_token}

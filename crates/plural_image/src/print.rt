@@ -1,6 +1,6 @@
 //! Printing an image.
 
-ghost use Rattle.std.specs.Prelude.{◌≡◌, ◌<◌, ◌≤◌, ◌%◌, ◌^◌, ◌++◌, ◌∷◌, length, flat_map, OnOk, IfOk, ◌==◌};
+ghost use Rattle.std.specs.Prelude.{◌≡◌, ◌<◌, ◌≤◌, ◌%◌, ◌++◌, ◌∷◌, length, flat_map, OnOk, IfOk, ◌==◌};
 ghost use Rattle.std.specs.List.{list_all};
 ghost use Rattle.plural_bytes.specs.Hexadecimal.{hex_text};
 ghost use Rattle.plural_image.specs.Print.{row_lines, image_text};

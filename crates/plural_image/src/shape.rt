@@ -1,8 +1,7 @@
 //! The shape of an image line.
 
-ghost use Rattle.std.specs.Prelude.{◌≡◌, ◌<◌, ◌^◌, option_map, IfSome};
+ghost use Rattle.std.specs.Prelude.{◌≡◌, ◌<◌, option_map};
 ghost use Rattle.plural_bytes.specs.Lines.{tokens};
-ghost use Rattle.plural_sections.specs.Numbers.{word_token};
 ghost use Rattle.plural_image.specs.Shape.{address_token, one_to_eight, image_line};
 
 use arrayvec::ArrayVec;

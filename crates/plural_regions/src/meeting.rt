@@ -85,8 +85,8 @@ fn candidate_apart(r: &Region, q1: u32, s: &Region, q2: u32) -> Option<u32>
     Some(low + steps as u32)
 }
 
-/// The first instance of `r` that can meet one of `s`, where a scan isn't needed: the regions are of different tasks, or
-/// of one task and have one stride, so that only the distance of two instances counts.
+/// The first instance of `r` that can meet one of `s`, where a scan isn't needed: the regions are of different tasks,
+/// or of one task and have one stride, so that only the distance of two instances counts.
 fn candidate(r: &Region, q1: u32, s: &Region, q2: u32, same_task: bool) -> Option<u32>
     requires first_quota { q1 ≤ 16384 }
     requires second_quota { q2 ≤ 16384 }
@@ -105,11 +105,11 @@ fn candidate(r: &Region, q1: u32, s: &Region, q2: u32, same_task: bool) -> Optio
     }
 }
 
-/// The least triple of an instance of `r` below `q1`, an instance of `s` below `q2` and a word that both have; within one
-/// task the first instance is below the second. The modes play no part.
+/// The least triple of an instance of `r` below `q1`, an instance of `s` below `q2` and a word that both have; within
+/// one task the first instance is below the second. The modes play no part.
 ///
-/// The quotas are at most 16,384, and all words of these instances are below 1,048,576. All instances are gone over only
-/// for regions of one task with different strides.
+/// The quotas are at most 16,384, and all words of these instances are below 1,048,576. All instances are gone over
+/// only for regions of one task with different strides.
 pub fn meet(r: &Region, q1: u32, s: &Region, q2: u32, same_task: bool) -> Option<Meet>
     requires first_quota { q1 ≤ 16384 }
     requires second_quota { q2 ≤ 16384 }

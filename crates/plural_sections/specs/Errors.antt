@@ -6,7 +6,8 @@ use Rattle.plural_sections.specs.declared.line_error.LineError.{LineError}
 use Rattle.plural_sections.specs.declared.line_error.LineError.TheVariants.{At, Memory}
 
 -- An error with a line tells the first fault of the lines; that memory ran out says nothing of them.
-abbrev pub Tells : {K : Type 0} (rank : K → ℕ) (Breaks : List TextLine → List ℕ → K → Type 0) → List TextLine → LineError K → Type 0
+abbrev pub Tells : {K : Type 0} (rank : K → ℕ) (Breaks : List TextLine → List ℕ → K → Type 0) → List TextLine
+    → LineError K → Type 0
 Tells rank Breaks lines Memory = ⊤
 Tells rank Breaks lines (At number kind) = IsFirstFault rank Breaks lines number kind
 

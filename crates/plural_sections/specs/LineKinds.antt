@@ -1,6 +1,7 @@
--- The faults of a format's lines by its table: the shapes of its lines, and the kinds of faults that a line of a shape has
--- after so many lines that spell so much. A format gives the shape of a text, the value that lines spell, the table and
--- the order of the kinds; these words give the rule of its lines, a line's fault and what a check of a line answers.
+-- The faults of a format's lines by its table: the shapes of its lines, and the kinds of faults that a line of a
+-- shape has after so many lines that spell so much. A format gives the shape of a text, the value that lines spell,
+-- the table and the order of the kinds; these words give the rule of its lines, a line's fault and what a check of a
+-- line answers.
 use Rattle.std.specs.Prelude.{◌≡◌, ℕ, ◌≤◌, List, Option, MatchOption, length, fold}
 use Rattle.std.specs.Option.{option_map_or}
 use Rattle.plural_bytes.specs.Lines.{TextLine}
@@ -26,9 +27,12 @@ abbrev pub IsLineFault : {S K : Type 0} → (rank : K → ℕ) → (form : K) �
 IsLineFault rank form Table shape kind = MatchOption shape (kind ≡ form) (λ s. IsLeast rank (Table s) kind)
 
 -- The rule of a format's lines. Its table takes how many lines stand before a line, and the value that these spell.
-abbrev pub BreaksBy : {S V K : Type 0} → (shape_of : List ℕ → Option S) → (form : K) → (value : List TextLine → V) → (Table : ℕ → V → S → K → Type 0) → List TextLine → List ℕ → K → Type 0
-BreaksBy shape_of form value Table before text kind = KindsOf form (Table (length before) (value before)) (shape_of text) kind
+abbrev pub BreaksBy : {S V K : Type 0} → (shape_of : List ℕ → Option S) → (form : K) → (value : List TextLine → V)
+    → (Table : ℕ → V → S → K → Type 0) → List TextLine → List ℕ → K → Type 0
+BreaksBy shape_of form value Table before text kind =
+    KindsOf form (Table (length before) (value before)) (shape_of text) kind
 
 -- The value that lines spell, each of which adds what its shape says; one without a shape adds nothing.
-abbrev pub spelled_by : {S V : Type 0} → (shape_of : List ℕ → Option S) → (with_line : V → S → V) → (nothing : V) → List TextLine → V
+abbrev pub spelled_by : {S V : Type 0} → (shape_of : List ℕ → Option S) → (with_line : V → S → V) → (nothing : V)
+    → List TextLine → V
 spelled_by shape_of with_line nothing lines = fold (λ v l. option_map_or (with_line v) (shape_of l.1) v) nothing lines

@@ -3,8 +3,8 @@ use Rattle.std.specs.Prelude.{ℕ, Bool, true, List, [], ◌∷◌, ◌++◌, fo
 use Rattle.std.specs.List.{before_first, after_first}
 use Rattle.plural_bytes.specs.Lines.{TextLine}
 
--- A text that closes a section: a header, whose first token begins with `[`, or no text, which stands for the end of the
--- text and is no content line's.
+-- A text that closes a section: a header, whose first token begins with `[`, or no text, which stands for the end of
+-- the text and is no content line's.
 abbrev pub closes : List ℕ → Bool
 closes [] = true
 closes (c ∷ cs) = c == 91

@@ -27,8 +27,8 @@ abbrev pub PartBreaks : {K : Type 0} → (K → Fault) → (due : List ℕ) → 
 PartBreaks of due Part before text fault =
     InSection (closes text) (IsNot due text fault) (Renamed of (λ k. Part before text k) fault)
 
--- The same of a section that has to be whole: the line that closes it, seen as a line without text, has the kinds of the
--- section's rule too.
+-- The same of a section that has to be whole: the line that closes it, seen as a line without text, has the kinds of
+-- the section's rule too.
 abbrev pub WholePartBreaks : {K : Type 0} → (K → Fault) → (due : List ℕ) → LineRule K → LineRule Fault
 WholePartBreaks of due Part before text fault =
     InSection (closes text)
@@ -39,7 +39,7 @@ WholePartBreaks of due Part before text fault =
 abbrev pub PastBreaks : List ℕ → Fault → Type 0
 PastBreaks text fault = (fault ≡ Form) × (has_text text ≡ true)
 
--- A line of a text of sections has the kinds of its section, the one after as many as were closed before the line, by the
--- lines since.
+-- A line of a text of sections has the kinds of its section, the one after as many as were closed before the line, by
+-- the lines since.
 abbrev pub TextBreaks : (ℕ → LineRule Fault) → LineRule Fault
 TextBreaks Sections before text fault = Sections (closings before) (since before) text fault

@@ -37,7 +37,8 @@ pub fn after_header<'a, 'b>(
     end: u32,
 ) -> Result<&'a [Line<'b>], LineError<Fault>>
     requires { 0 < length header.now }
-    ensures answer { MatchResult result (λ rest. IsHeaded header.now (text_lines lines.now) (text_lines rest.now)) (IsMissing header.now (text_lines lines.now) end) }
+    ensures answer { MatchResult result (λ rest. IsHeaded header.now (text_lines lines.now) (text_lines rest.now))
+        (IsMissing header.now (text_lines lines.now) end) }
     ensures few { IfOk result (λ rest. length rest.now ≤ length lines.now) }
 {
     if !is_word(first_text(lines), header) {

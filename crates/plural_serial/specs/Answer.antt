@@ -21,13 +21,15 @@ record_of p i =
       stores = length life.stores;
     }
 
--- An answer as contracts see it: a memory, the outcome of each task by its number, and the records of instances in order.
+-- An answer as contracts see it: a memory, the outcome of each task by its number, and the records of instances in
+-- order.
 pub record AnswerValue : Type 0 where
   pub image : List ℕ
   pub outcomes : List Outcome
   pub records : List Record
 
--- The answer is the serial run's: its last memory, each task's outcome, a record of each instance in the order in which they ran.
+-- The answer is the serial run's: its last memory, each task's outcome, a record of each instance in the order in
+-- which they ran.
 pub record IsSerial (p : ProgramValue) (m : List ℕ) (a : AnswerValue) : Type 0 where
   pub image : a.image ≡ (serial_of p m).memory
   pub outcomes : map (λ o. Some o) a.outcomes ≡ (serial_of p m).outcomes
@@ -35,7 +37,8 @@ pub record IsSerial (p : ProgramValue) (m : List ℕ) (a : AnswerValue) : Type 0
 
 -- One task was decided and run: over the outcomes so far the memory became this one, the records gained those of the
 -- instances that ran, and this is the task's outcome, whatever had run before.
-pub record IsTaskRun (p : ProgramValue) (t : ℕ) (outcomes : List (Option Outcome)) (before after : List ℕ) (old new : List Record) (o : Outcome) : Type 0 where
+pub record IsTaskRun (p : ProgramValue) (t : ℕ) (outcomes : List (Option Outcome)) (before after : List ℕ)
+    (old new : List Record) (o : Outcome) : Type 0 where
   pub ran : List Started
   pub records : new ≡ old ++ map (record_of p) ran
   pub run : (earlier : List Started) → with_task p (record { memory = before; outcomes = outcomes; ran = earlier }) t

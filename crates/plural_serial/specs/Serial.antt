@@ -40,7 +40,8 @@ is_code_1 _ = false
 -- The outcome of a task whose instances ended so: failed where one of them failed, else ended with the largest code.
 abbrev pub outcome_of : List End → Outcome
 outcome_of ends =
-    if list_any is_failure ends then outcome.Failed else (if list_any is_code_1 ends then outcome.Ended1 else outcome.Ended0)
+    if list_any is_failure ends then outcome.Failed
+    else (if list_any is_code_1 ends then outcome.Ended1 else outcome.Ended0)
 
 -- A memory, and the instances that brought it about.
 pub record Stretch : Type 0 where

@@ -31,7 +31,8 @@ impl<B: Bus> DataPort for Cached<'_, B> {
 
     ghost stands_for = { λ c. StandsFor c.cache.now };
 
-    ghost keeps = { λ c d. (d.bus.ghost_name ≡ c.bus.ghost_name) × (d.cache.ghost_name ≡ c.cache.ghost_name) × B.keeps c.bus.now d.bus.now
+    ghost keeps = { λ c d. (d.bus.ghost_name ≡ c.bus.ghost_name) × (d.cache.ghost_name ≡ c.cache.ghost_name)
+        × B.keeps c.bus.now d.bus.now
         × KeepsCounts c.cache.now d.cache.now (B.counts c.bus.now) (B.counts d.bus.now) };
 
     ghost is_sound = { λ c. B.is_sound c.bus.now × IsCacheOver c.cache.now (B.told c.bus.now) (B.counts c.bus.now) };
@@ -57,6 +58,7 @@ impl<B: Bus> DataPort for Cached<'_, B> {
       k.0 ∙ h.0,
       k.1 ∙ h.1,
       B.keeps_both s.bus.now t.bus.now u.bus.now h.2 k.2,
-      counts_both s.cache.now t.cache.now u.cache.now (B.counts s.bus.now) (B.counts t.bus.now) (B.counts u.bus.now) h.3 k.3,
+      counts_both s.cache.now t.cache.now u.cache.now (B.counts s.bus.now) (B.counts t.bus.now)
+          (B.counts u.bus.now) h.3 k.3,
     ) };
 }

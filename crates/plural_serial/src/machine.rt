@@ -67,11 +67,14 @@ fn run_task(
     requires words { length flat.old.words ≡ program.now.map.words }
     requires whole { program.now.map.words % 8 ≡ 0 }
     requires t { t < length program.now.map.tasks }
-    ensures memory { OnOk result (flat.new.words ≡ (instances program.now t (task_at program.now t).quota flat.old.words).memory) }
+    ensures memory { OnOk result (flat.new.words ≡
+        (instances program.now t (task_at program.now t).quota flat.old.words).memory) }
     ensures words { length flat.new.words ≡ length flat.old.words }
     ensures shape { IsShaped program.now.map cache.new }
-    ensures records { OnOk result (records.new.items ≡ records.old.items ++ map (record_of program.now) (instances program.now t (task_at program.now t).quota flat.old.words).ran) }
-    ensures outcome { IfOk result (λ o. o ≡ outcome_of (map (end_of program.now) (instances program.now t (task_at program.now t).quota flat.old.words).ran)) }
+    ensures records { OnOk result (records.new.items ≡ records.old.items
+        ++ map (record_of program.now) (instances program.now t (task_at program.now t).quota flat.old.words).ran) }
+    ensures outcome { IfOk result (λ o. o ≡ outcome_of
+        (map (end_of program.now) (instances program.now t (task_at program.now t).quota flat.old.words).ran)) }
 {
     let quota = program.task(t).quota();
     let mut outcome = Outcome::Ended0;
@@ -97,7 +100,8 @@ fn task_outcome(
     requires whole { program.now.map.words % 8 ≡ 0 }
     requires t { t < length program.now.map.tasks }
     requires decidable { HasPredecessors (task_at program.now t) outcomes.now }
-    ensures all { IfOk result (λ o. IsTaskRun program.now t outcomes.now flat.old.words flat.new.words records.old.items records.new.items o) }
+    ensures all { IfOk result (λ o.
+        IsTaskRun program.now t outcomes.now flat.old.words flat.new.words records.old.items records.new.items o) }
     ensures words { length flat.new.words ≡ length flat.old.words }
     ensures shape { IsShaped program.now.map cache.new }
 {

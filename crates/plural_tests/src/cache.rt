@@ -18,7 +18,11 @@ impl Bus for Words {
     ghost use Rattle.std.proofs.Common.{arith};
     ghost use Rattle.std.proofs.lemmas.Bool.Decides.{nat_tests};
 
-    ghost told = { λ w. record { words = w.words.items; lawful = λ a. nat_lt a (length w.words.items); expects = None } };
+    ghost told = { λ w. record {
+      words = w.words.items;
+      lawful = λ a. nat_lt a (length w.words.items);
+      expects = None;
+    } };
 
     ghost counts = { λ w. record { reads = w.reads; writes = w.writes } };
 

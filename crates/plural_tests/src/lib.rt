@@ -3,8 +3,8 @@
 //!
 //! A file has the name of the crate that it tests, but for those on the public call: `cut` tries it over inputs that
 //! end too early, `limits` over inputs at their limits, `outside` over sources and sinks that fail. `adapters` has
-//! readers and writers for the sources and sinks of `plural_bytes`, `told` a bus and a port that tell the store to come.
-//! `trial` is what the tests share.
+//! readers and writers for the sources and sinks of `plural_bytes`, `told` a bus and a port that tell the store to
+//! come. `trial` is what the tests share.
 //!
 //! Promise: nothing but tests. They stand in one crate, since a crate with tests is proved twice, and since a program
 //! of tests begins with a check of all that it stands on.

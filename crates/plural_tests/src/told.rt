@@ -18,7 +18,7 @@ struct Told {
 }
 
 impl Bus for Told {
-    ghost use Rattle.std.specs.Prelude.{length, nat_lt, Some, None, List, [], ◌∷◌};
+    ghost use Rattle.std.specs.Prelude.{length, nat_lt, Some, None, [], ◌∷◌};
     ghost use Rattle.std.specs.Option.{option_map_or};
     ghost use Rattle.std.proofs.Common.{arith};
     ghost use Rattle.std.proofs.lemmas.Bool.Decides.{nat_tests};
