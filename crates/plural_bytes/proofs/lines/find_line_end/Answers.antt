@@ -16,5 +16,6 @@ search_is p bytes (Some i) h =
     let place = position_or_len_is p bytes i 0 (omega (arith, h.0.high)) (λ k l. false_from_ne_true _ (h.0.before k (omega arith) l)) (λ _. h.1) in
     sym (found_at p bytes i place h.0.high)
 
+-- The answer meets the contract.
 pub returns : goal.returns
 returns c = search_is is_line_end c.args.text.now c.memchr.result c.memchr.ensures

@@ -2,6 +2,7 @@ use Rattle.std.proofs.Common.{◌++◌, take, refl, arith}
 use Rattle.plural_bytes.proofs.KnownBytes.{consumes_more, taken_length}
 use Rattle.plural_bytes.proofs.reading.read_all.Goals as goal
 
+-- The answer at `then-n-limit` meets the clause `too_long`.
 pub returns-then-n-limit-clause-too_long : goal.returns-then-n-limit-clause-too_long
 returns-then-n-limit-clause-too_long g c =
     let S = g.S.Source in
@@ -14,6 +15,7 @@ returns-then-n-limit-clause-too_long g c =
       ((λ _. omega (arith, long, c.loop-bytes.bytes.ok.0)), (λ _. refl)),
     )
 
+-- The answer at `then-is_err` meets the clause `too_long`.
 pub returns-then-is_err-clause-too_long : goal.returns-then-is_err-clause-too_long
 returns-then-is_err-clause-too_long g c =
     let S = g.S.Source in

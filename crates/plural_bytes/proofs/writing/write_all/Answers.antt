@@ -3,6 +3,7 @@ use Rattle.std.proofs.lemmas.Bool.{eqb-false}
 use Rattle.plural_bytes.proofs.KnownBytes.{appends_more, front_more, cut_more, nothing_left}
 use Rattle.plural_bytes.proofs.writing.write_all.Goals as goal
 
+-- A turn of `loop-rest` keeps its invariant.
 pub loop-rest-preserved : goal.loop-rest-preserved
 loop-rest-preserved g c =
     let i = c.loop-rest.invariant in
@@ -17,6 +18,7 @@ loop-rest-preserved g c =
       nothing = λ e. absurd (nothing_left c.args.text.now i.part.0 rest i.part.1 some e);
     }
 
+-- The answer at `in-Err` meets the clause `err`.
 pub returns-in-Err-clause-err : goal.returns-in-Err-clause-err
 returns-in-Err-clause-err g c =
     let i = c.loop-rest.invariant in

@@ -6,11 +6,13 @@ use Rattle.plural_cache.specs.Cache.{loaded}
 use Rattle.plural_cache.proofs.Orders.{some_brought, brought_none}
 use Rattle.plural_cache.proofs.access.load_in.Goals as goal
 
+-- The call of `front_word` has what its clause `some` requires.
 pub front_word-requires-clause-some : goal.front_word-requires-clause-some
 front_word-requires-clause-some g c =
     subst (λ (ls : List Line). 0 < length ls) (sym c.seek.ensures.order)
     (some_brought (c.args.a / 8) c.args.set.now (sym c.seek.ensures.present ∙ c.if-seek.true))
 
+-- The answer at `else-seek` meets the clause `order`.
 pub returns-else-seek-clause-order : goal.returns-else-seek-clause-order
 returns-else-seek-clause-order g c =
     let x = c.args.a / 8 in

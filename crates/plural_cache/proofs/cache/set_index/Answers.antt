@@ -4,6 +4,7 @@ use Rattle.std.proofs.lemmas.Nat.{and_mask}
 use Rattle.plural_cache.proofs.Shapes.{power_of}
 use Rattle.plural_cache.proofs.cache.set_index.Goals as goal
 
+-- The answer meets the contract.
 pub returns : goal.returns
 returns c =
     let p = power_of c.args.sets c.requires in

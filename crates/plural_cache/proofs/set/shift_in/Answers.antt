@@ -3,6 +3,7 @@ use Rattle.std.specs.Prelude.{insert}
 use Rattle.plural_cache.proofs.Orders.{carried_all}
 use Rattle.plural_cache.proofs.set.shift_in.Goals as goal
 
+-- The answer meets the contract.
 pub returns : goal.returns
 returns c =
     let l = c.loop-i in

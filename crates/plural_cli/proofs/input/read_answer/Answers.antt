@@ -3,6 +3,7 @@ use Rattle.plural_cli.specs.Output.{Answers}
 use Rattle.plural_cli.proofs.WholeInputs.{whole_input}
 use Rattle.plural_cli.proofs.input.read_answer.Goals as goal
 
+-- The answer at `in-Ok-answer_to` meets the clause `answer`.
 pub returns-in-Ok-answer_to-clause-answer : goal.returns-in-Ok-answer_to-clause-answer
 returns-in-Ok-answer_to-clause-answer g c =
     let left = g.S.Source.left in

@@ -9,10 +9,12 @@ use Rattle.plural_cli.specs.Lines.{IsFaulty}
 use Rattle.plural_cli.specs.Verify.{IsOutputAnswer}
 use Rattle.plural_cli.proofs.verifying.joint_answer.Goals as goal
 
+-- The answer at `in-Faulty` meets the clause `answer`.
 pub returns-in-Faulty-clause-answer : goal.returns-in-Faulty-clause-answer
 returns-in-Faulty-clause-answer c =
     inl (subst (λ (ls : List TextLine). IsFaulty (text_lines c.args.lines.now) ls c.args.end c.in-Faulty.answer.status c.in-Faulty.answer.text.items) c.split_parts-parts.ensures.bundle (rw c.in-Faulty.is at c.in_ok-answer.ensures))
 
+-- The answer at `in-Whole` meets the clause `answer`.
 pub returns-in-Whole-clause-answer : goal.returns-in-Whole-clause-answer
 returns-in-Whole-clause-answer c =
     let whole = rw c.in-Whole.is at c.in_ok-answer.ensures in

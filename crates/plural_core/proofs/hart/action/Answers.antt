@@ -3,6 +3,7 @@ use Rattle.plural_isa.specs.Decoding.{decoded}
 use Rattle.plural_core.proofs.Effects.{act_is}
 use Rattle.plural_core.proofs.hart.action.Goals as goal
 
+-- The answer at `in-Some` meets the contract.
 pub returns-in-Some : goal.returns-in-Some
 returns-in-Some c =
     let fits : c.word.result < 2 ^ 32 = search rules in

@@ -6,6 +6,7 @@ use Rattle.plural_core.specs.Life.{stay}
 use Rattle.plural_core.proofs.Lives.{idle, more, last, foreseen, expected_on, fine_turn, going_none, over_some, core_is, words_kept}
 use Rattle.plural_core.proofs.life.run.Goals as goal
 
+-- The invariant of `loop-end` holds at its start.
 pub loop-end-init : goal.loop-end-init
 loop-end-init g c =
     let P = g.P.DataPort in
@@ -26,12 +27,14 @@ loop-end-init g c =
       );
     }
 
+-- The call of `turn_by` has what its clause `expected` requires.
 pub turn_by-requires-clause-expected : goal.turn_by-requires-clause-expected
 turn_by-requires-clause-expected g c =
     let i = c.loop-end.invariant in
     let P = g.P.DataPort in
     foreseen c.loop-end.hart.budget (place_of c.args.code.now c.args.regions.now c.loop-end.hart) c.loop-end.hart.state (P.told c.loop-end.port).words (P.told c.loop-end.port).expects i.going i.room i.expected
 
+-- A turn of `loop-end` makes its measure smaller.
 pub loop-end-smaller : goal.loop-end-smaller
 loop-end-smaller g c =
     let i = c.loop-end.invariant in
@@ -45,6 +48,7 @@ loop-end-smaller g c =
     let below = c.turn_by.ensures.within over in
     omega (arith, i.room, goes, count, b, below)
 
+-- A turn of `loop-end` keeps its invariant.
 pub loop-end-preserved : goal.loop-end-preserved
 loop-end-preserved g c =
     let i = c.loop-end.invariant in
@@ -74,6 +78,7 @@ loop-end-preserved g c =
       made = rw c.turn_by.ensures.state (more P.told P.counts P.stands_for P.keeps P.is_sound g.met.P.DataPort.keeps_both c.args.port.now c.loop-end.port c.turn_by.new.port c.loop-end.hart.budget p c.loop-end.hart.state i.made.0 _ i.going i.room still i.made.1 made i.made.2);
     }
 
+-- The answer at `in-Over` meets the clause `state`.
 pub returns-in-Over-clause-state : goal.returns-in-Over-clause-state
 returns-in-Over-clause-state g c =
     let i = c.loop-end.invariant in
@@ -84,6 +89,7 @@ returns-in-Over-clause-state g c =
     let l = last P.told P.counts P.stands_for P.keeps P.is_sound g.met.P.DataPort.keeps_both c.args.port.now c.loop-end.port c.turn_by.new.port c.loop-end.hart.budget p c.loop-end.hart.state i.made.0 _ c.in-Over.end i.going i.room over i.made.1 c.turn_by.ensures.port i.made.2 in
     core_is c.turn_by.new.self _ _ _ (s ∙ sym l.1) (ap (λ h. h.k) c.turn_by.ensures.state ∙ i.k) (ap (λ h. h.budget) c.turn_by.ensures.state ∙ i.budget)
 
+-- The answer at `in-Over` meets the clause `port`.
 pub returns-in-Over-clause-port : goal.returns-in-Over-clause-port
 returns-in-Over-clause-port g c =
     let i = c.loop-end.invariant in
@@ -93,6 +99,7 @@ returns-in-Over-clause-port g c =
     let over = sym (ap (λ t. t.over) s) ∙ over_some c.turn_by.new.self.state.over c.in-Over.end (sym c.turn_by.ensures.outcome ∙ c.in-Over.is) in
     (last P.told P.counts P.stands_for P.keeps P.is_sound g.met.P.DataPort.keeps_both c.args.port.now c.loop-end.port c.turn_by.new.port c.loop-end.hart.budget p c.loop-end.hart.state i.made.0 _ c.in-Over.end i.going i.room over i.made.1 c.turn_by.ensures.port i.made.2).0
 
+-- The answer at `in-Over` meets the clause `words`.
 pub returns-in-Over-clause-words : goal.returns-in-Over-clause-words
 returns-in-Over-clause-words g c =
     let i = c.loop-end.invariant in

@@ -3,12 +3,15 @@ use Rattle.std.proofs.lemmas.Bool.{cases_lt}
 use Rattle.plural_crew.proofs.ClashLemmas.{none_past, none_earlier}
 use Rattle.plural_crew.proofs.checking.first_clash_of.Goals as goal
 
+-- The invariant of `loop-u` holds at its start.
 pub loop-u-init : goal.loop-u-init
 loop-u-init c = λ w l. none_earlier c.args.map.now.tasks c.args.t w l
 
+-- A turn of `loop-u` keeps its invariant.
 pub loop-u-preserved : goal.loop-u-preserved
 loop-u-preserved c = below_more _ _ c.loop-u.invariant c.in_default.ensures
 
+-- The answer meets the clause `none`.
 pub returns-clause-none : goal.returns-clause-none
 returns-clause-none c = λ w. ⊎_elim
     (λ (l : w < c.loop-u.u). c.loop-u.invariant w l)

@@ -6,16 +6,20 @@ use Rattle.plural_crew.specs.Search.{IsLeastOf, MeetsSome, SomeMeet}
 use Rattle.plural_crew.proofs.LeastLemmas.{least_none, least_more}
 use Rattle.plural_crew.proofs.least.some_meet.Goals as goal
 
+-- The invariant of `loop-r` holds at its start.
 pub loop-r-init : goal.loop-r-init
 loop-r-init c = least_none (λ r. MeetsSome r c.args.q1 c.args.seconds.now c.args.q2 c.args.same_task) c.args.firsts.now
 
+-- The call of `meets_some` has what its clause `first_words` requires.
 pub meets_some-requires-clause-first_words : goal.meets_some-requires-clause-first_words
 meets_some-requires-clause-first_words c = subst (λ (r : Region). AllInside r c.args.q1 1048576) (sym c.r-item.is) (c.requires.first_words c.loop-r.r-index c.r-item.result c.loop-r-test.true)
 
+-- A turn of `loop-r` keeps its invariant.
 pub loop-r-preserved : goal.loop-r-preserved
 loop-r-preserved c = rw c.lesser-least.ensures
     (least_more (λ r. MeetsSome r c.args.q1 c.args.seconds.now c.args.q2 c.args.same_task) c.args.firsts.now c.loop-r.r-index c.r-item.result c.loop-r.least c.meets_some.result c.loop-r-test.true c.loop-r.invariant
     (subst (λ (r : Region). IsLeastOf (MeetsSome r c.args.q1 c.args.seconds.now c.args.q2 c.args.same_task) c.meets_some.result) c.r-item.is c.meets_some.ensures))
 
+-- The answer meets the contract.
 pub returns : goal.returns
 returns c = subst (λ (rs : List Region). IsLeastOf (SomeMeet rs c.args.q1 c.args.seconds.now c.args.q2 c.args.same_task) c.loop-r.least) (take_all c.loop-r.r-index c.args.firsts.now (omega arith)) c.loop-r.invariant

@@ -7,23 +7,27 @@ use Rattle.plural_reach.proofs.TableEntries.{item_within, few_deps, filled, fini
 use Rattle.plural_reach.proofs.BranchLemmas.{need_step, need_local, needs_exact}
 use Rattle.plural_reach.proofs.branches.needs_of.Goals as goal
 
+-- The index of `tasks-t` is inside.
 pub bounds-tasks-t : goal.bounds-tasks-t
 bounds-tasks-t c =
     let w = item_within c.args.map.now c.tasks-tasks.ensures.limits _ c.loop-t.invariant.order c.loop-t.t-index c.loop-t-test.true in
     omega (arith, ap length c.loop-t.invariant.tasks)
 
+-- The call of `given` has what it requires.
 pub given-requires : goal.given-requires
 given-requires c =
     let w = item_within c.args.map.now c.tasks-tasks.ensures.limits _ c.loop-t.invariant.order c.loop-t.t-index c.loop-t-test.true in
     (few_deps c.args.map.now c.tasks-tasks.ensures.limits _ c.index-tasks-t.result w
     (subst (λ (xs : List TaskValue). c.index-tasks-t.result ≡ get_or xs (slice_index c.order-t-items.result.now c.loop-t.t-index) c.index-tasks-t.result) c.loop-t.invariant.tasks c.index-tasks-t.is))
 
+-- The index of `sets-t` is inside.
 pub bounds-sets-t : goal.bounds-sets-t
 bounds-sets-t c =
     let w = item_within c.args.map.now c.tasks-tasks.ensures.limits _ c.loop-t.invariant.order c.loop-t.t-index c.loop-t-test.true in
     let few = c.tasks-tasks.ensures.limits.few_tasks in
     omega arith
 
+-- A turn of `loop-t` keeps its invariant.
 pub loop-t-preserved : goal.loop-t-preserved
 loop-t-preserved c =
     record {
@@ -36,6 +40,7 @@ loop-t-preserved c =
           c.given.ensures;
     }
 
+-- The answer meets the contract.
 pub returns : goal.returns
 returns c = needs_exact c.args.code c.args.map.now.tasks (row c.loop-t.sets) (reaches_all c.args.map.now c.tasks-tasks.ensures.limits)
     (finished (need_step c.args.code) c.args.map.now c.tasks-tasks.ensures.limits _ c.loop-t.invariant.order c.loop-t.t-index (omega arith) (row c.loop-t.sets) c.loop-t.invariant.solves)

@@ -8,6 +8,7 @@ use Rattle.plural_reach.specs.Rows.{row, is_named}
 use Rattle.plural_reach.proofs.DepLemmas.{row_at}
 use Rattle.plural_reach.proofs.chains.named.Goals as goal
 
+-- A turn of `loop-dep` keeps its invariant.
 pub loop-dep-preserved : goal.loop-dep-preserved
 loop-dep-preserved c = λ p.
     let deps = c.args.deps.now in

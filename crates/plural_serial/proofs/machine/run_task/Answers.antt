@@ -6,10 +6,12 @@ use Rattle.plural_serial.specs.declared.record_.Record.{Record}
 use Rattle.plural_serial.proofs.Runs.{instances_more, map_push}
 use Rattle.plural_serial.proofs.machine.run_task.Goals as goal
 
+-- The invariant of `loop-k` holds at its start.
 pub loop-k-init : goal.loop-k-init
 unfolding instances
 loop-k-init c = record { shape = c.requires.shape; words = refl; memory = refl; records = sym (append-nil c.args.records.now.items); outcome = refl }
 
+-- A turn of `loop-k` keeps its invariant.
 pub loop-k-preserved : goal.loop-k-preserved
 loop-k-preserved c =
     let i = c.loop-k.invariant in

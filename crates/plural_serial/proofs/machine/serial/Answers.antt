@@ -12,21 +12,25 @@ use Rattle.plural_serial.specs.declared.record_.Record.{Record}
 use Rattle.plural_serial.proofs.Within.{records_within}
 use Rattle.plural_serial.proofs.machine.serial.Goals as goal
 
+-- The call of `task_outcome` has what its clause `t` requires.
 pub task_outcome-requires-clause-t : goal.task_outcome-requires-clause-t
 task_outcome-requires-clause-t c =
     next_within c.args.program.now.map _ c.loop-t.t-index (subst (λ (m : MapValue). IsMap m) c.map-map.ensures c.order-t-items.ensures.limits) c.loop-t.invariant.order (omega arith)
 
+-- The call of `task_outcome` has what its clause `decidable` requires.
 pub task_outcome-requires-clause-decidable : goal.task_outcome-requires-clause-decidable
 task_outcome-requires-clause-decidable c =
     rw c.deref.ensures.value
     (predecessors_there c.args.program.now.map _ c.loop-t.outcomes.items c.loop-t.t-index (subst (λ (m : MapValue). IsMap m) c.map-map.ensures c.order-t-items.ensures.limits) c.loop-t.invariant.order (omega arith)
     c.loop-t.invariant.settled)
 
+-- The call of `index_mut` has what it requires.
 pub index_mut-requires : goal.index_mut-requires
 index_mut-requires c =
     let within = next_within c.args.program.now.map _ c.loop-t.t-index (subst (λ (m : MapValue). IsMap m) c.map-map.ensures c.order-t-items.ensures.limits) c.loop-t.invariant.order (omega arith) in
     omega (arith, within, c.loop-t.invariant.count)
 
+-- A turn of `loop-t` keeps its invariant.
 pub loop-t-preserved : goal.loop-t-preserved
 loop-t-preserved c =
     let i = c.loop-t.invariant in
@@ -44,18 +48,21 @@ loop-t-preserved c =
           c.loop-t.records.items c.task_outcome.new.records.items c.in_ok-outcome.outcome (omega arith) refl i.so_far ran;
     }
 
+-- The call of `settled` has what it requires.
 pub settled-requires : goal.settled-requires
 settled-requires c =
     rw c.deref-2.ensures.value
     (all_settled c.args.program.now.map c.order-t-items.result.now c.loop-t.outcomes.items c.loop-t.t-index (subst (λ (m : MapValue). IsMap m) c.map-map.ensures c.order-t-items.ensures.limits) c.loop-t.invariant.order
     (omega arith) c.loop-t.invariant.count c.loop-t.invariant.settled)
 
+-- The answer meets the clause `tasks`.
 pub returns-clause-tasks : goal.returns-clause-tasks
 returns-clause-tasks c =
     let limits = subst (λ (m : MapValue). IsMap m) c.map-map.ensures c.order-t-items.ensures.limits in
     All-same (λ (r : Record). r.t < length c.args.program.now.map.tasks) c.of.result.records c.loop-t.records.items (ap (λ (a : AnswerValue). a.records) c.of.ensures)
     (records_within c.args.program.now c.args.image.now c.loop-t.flat.words c.order-t-items.result.now c.loop-t.t-index c.loop-t.outcomes.items c.loop-t.records.items limits c.loop-t.invariant.order c.loop-t.invariant.so_far)
 
+-- The answer meets the clause `few`.
 pub returns-clause-few : goal.returns-clause-few
 returns-clause-few c =
     rw c.of.ensures

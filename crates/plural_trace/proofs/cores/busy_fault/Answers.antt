@@ -8,6 +8,7 @@ use Rattle.plural_trace.proofs.CoreSweep.{AreLawful, Swept, step_next, step_meet
 use Rattle.plural_trace.proofs.cores.busy_fault.Goals as goal
 use Rattle.plural_trace.proofs.cores.busy_fault.Goals.{then-j-first+then-entries-j, else-j-first, else-j-first-via-then-j-first+else-entries-j, else-j-first-via-else-j-first}
 
+-- A turn of `loop-ticket` keeps its invariant.
 pub loop-ticket-preserved : goal.loop-ticket-preserved
 loop-ticket-preserved c =
     let es = c.args.entries.now in
@@ -38,6 +39,7 @@ loop-ticket-preserved c =
     ] in
     subst (λ x. Swept es m cores (x + 1) c.if-j-first.first c.if-j-first.last.items) at next
 
+-- The answer at `then-first-m` meets the clause `least`.
 pub returns-then-first-m-clause-least : goal.returns-then-first-m-clause-least
 returns-then-first-m-clause-least c =
     let es = c.args.entries.now in
@@ -45,6 +47,7 @@ returns-then-first-m-clause-least c =
     let law : AreLawful es c.args.m c.args.cores = record { below = c.requires.m; tickets = c.requires.tickets; own = λ k l. c.requires.cores k no_entry l } in
     least_found (is_busy_at es) l.first c.args.m c.if-first-m.true (swept_all es c.args.m c.args.cores l.ticket l.first l.last.items law (let long = c.in_ok-starts.ensures.long in let n = c.len-ticket-end.ensures in let t = c.loop-ticket-test.false in omega arith) l.invariant) (l.invariant.busy c.if-first-m.true)
 
+-- The answer meets the clause `least`.
 pub returns-clause-least : goal.returns-clause-least
 returns-clause-least c =
     let es = c.args.entries.now in

@@ -3,6 +3,7 @@ use Rattle.std.proofs.lemmas.List.{length-set}
 use Rattle.plural_trace.proofs.CoreSweep.{start_below, starts_there, starts_each}
 use Rattle.plural_trace.proofs.cores.starts.Goals as goal
 
+-- The call of `index_mut` has what it requires.
 pub index_mut-requires : goal.index_mut-requires
 index_mut-requires c =
     let es = c.args.entries.now in
@@ -12,6 +13,7 @@ index_mut-requires c =
     let long = l.invariant.long in
     omega arith
 
+-- A turn of `loop-i` keeps its invariant.
 pub loop-i-preserved : goal.loop-i-preserved
 loop-i-preserved c =
     let es = c.args.entries.now in

@@ -7,10 +7,12 @@ use Rattle.plural_trace.proofs.SerialResults.{expected_same}
 use Rattle.plural_trace.proofs.Stretches.{records_standing}
 use Rattle.plural_trace.proofs.judging.legal.Goals as goal
 
+-- The call of `judge` has what its clause `by_instance` requires.
 pub judge-requires-clause-by_instance : goal.judge-requires-clause-by_instance
 judge-requires-clause-by_instance c limits =
     rw c.in_ok-answer.ensures.answer.records (records_standing c.args.program.now c.args.start.now (subst (λ (m : MapValue). IsMap m) c.map.ensures limits))
 
+-- The answer meets the contract.
 pub returns : goal.returns
 returns c =
     let p = c.args.program.now in

@@ -4,6 +4,7 @@ use Rattle.plural_trace.specs.Rules.{no_entry, entry_at}
 use Rattle.plural_trace.proofs.LatestEnds.{ends_next}
 use Rattle.plural_trace.proofs.order.latest_ends.Goals as goal
 
+-- A turn of `loop-i` keeps its invariant.
 pub loop-i-preserved : goal.loop-i-preserved
 loop-i-preserved c =
     let es = c.args.entries.now in

@@ -5,6 +5,7 @@ use Rattle.plural_trace.proofs.LeastPlaces.{nowhere_next}
 use Rattle.plural_trace.proofs.LatestEnds.{bounds_from, order_breaks, order_kept}
 use Rattle.plural_trace.proofs.order.order_fault.Goals as goal
 
+-- The answer at `then-entries-i` meets the clause `least`.
 pub returns-then-entries-i-clause-least : goal.returns-then-entries-i-clause-least
 returns-then-entries-i-clause-least c =
     let tasks = c.args.map.now.tasks in
@@ -20,6 +21,7 @@ returns-then-entries-i-clause-least c =
     let below : e.start < get_or bounds e.rec.t 0 = let t = c.if-entries-i.true in omega arith in
     (c.loop-i-test.true, order_breaks tasks es c.reach.result c.deref.result.now bounds i known c.loop-i-test.true below, c.loop-i.invariant)
 
+-- A turn of `loop-i` keeps its invariant.
 pub loop-i-preserved : goal.loop-i-preserved
 loop-i-preserved c =
     let tasks = c.args.map.now.tasks in
@@ -35,5 +37,6 @@ loop-i-preserved c =
     let above : get_or bounds e.rec.t 0 ≤ e.start = let t = c.if-entries-i.false in omega arith in
     nowhere_next (BreaksOrder tasks es) i c.loop-i.invariant (order_kept tasks es c.reach.result c.deref.result.now bounds i known c.loop-i-test.true above)
 
+-- The answer meets the clause `least`.
 pub returns-clause-least : goal.returns-clause-least
 returns-clause-least c i l = c.loop-i.invariant i (let end = c.loop-i-test.false in omega arith)

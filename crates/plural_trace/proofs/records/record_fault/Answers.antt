@@ -8,6 +8,7 @@ use Rattle.plural_trace.proofs.RecordPlaces.{breaks_when, breaks_by, breaks_afte
 use Rattle.plural_trace.proofs.records.record_fault.Goals as goal
 use Rattle.plural_trace.proofs.records.record_fault.Goals.{in_default-via-in-Some+else-not-index, in_default-via-in_default}
 
+-- The answer at `in_default` meets the clause `least`.
 pub returns-in_default-clause-least : goal.returns-in_default-clause-least
 returns-in_default-clause-least c =
     let rs = c.args.records.now in
@@ -23,6 +24,7 @@ returns-in_default-clause-least c =
       | in_default-via-in_default w ↦ breaks_when rs es i c.loop-i-test.true w.in_default.ensures.none
     ])
 
+-- A turn of `loop-i` keeps its invariant.
 pub loop-i-preserved : goal.loop-i-preserved
 loop-i-preserved c =
     let rs = c.args.records.now in
@@ -36,6 +38,7 @@ loop-i-preserved c =
       tells = tells_more c.requires.by_instance.0 rs es i p c.loop-i.seen.items c.requires.by_instance.1 c.loop-i.invariant.long c.loop-i-test.true c.in-Some.ensures.within c.in-Some.ensures.same c.loop-i.invariant.tells;
     }
 
+-- The answer at `then-not-all_seen` meets the clause `least`.
 pub returns-then-not-all_seen-clause-least : goal.returns-then-not-all_seen-clause-least
 returns-then-not-all_seen-clause-least c =
     let rs = c.args.records.now in
@@ -45,6 +48,7 @@ returns-then-not-all_seen-clause-least c =
     least_found (breaks_records rs es) (length es) (length es + 1) (omega arith) (ap (least (breaks_records rs es)) (sym all) ∙ c.loop-i.invariant.none)
     (breaks_after rs es i c.loop-i.seen.items c.loop-i.invariant.long c.loop-i-test.false c.loop-i.invariant.tells ∙ ap not (ap (list_all (λ (s : Bool). s)) (sym c.deref-2.ensures.value) ∙ sym c.all_seen.ensures ∙ c.if-not-all_seen.true))
 
+-- The answer meets the clause `least`.
 pub returns-clause-least : goal.returns-clause-least
 returns-clause-least c =
     let rs = c.args.records.now in

@@ -5,6 +5,7 @@ use Rattle.plural_trace.proofs.LeastPlaces.{least_next, least_found}
 use Rattle.plural_trace.proofs.TicketLemmas.{tickets_test, marks_next}
 use Rattle.plural_trace.proofs.tickets.ticket_fault.Goals as goal
 
+-- The answer at `then-is_fault` meets the clause `least`.
 pub returns-then-is_fault-clause-least : goal.returns-then-is_fault-clause-least
 returns-then-is_fault-clause-least c =
     let es = c.args.entries.now in
@@ -14,6 +15,7 @@ returns-then-is_fault-clause-least c =
     least_found (breaks_tickets es) i (length es) c.loop-i-test.true c.loop-i.invariant.none
     (sym (tickets_test es c.loop-i.drawn.items i c.loop-i.invariant.marks) ∙ ap test (sym c.deref.ensures.value) ∙ sym c.is_fault.ensures ∙ c.if-is_fault.true)
 
+-- A turn of `loop-i` keeps its invariant.
 pub loop-i-preserved : goal.loop-i-preserved
 loop-i-preserved c =
     let es = c.args.entries.now in

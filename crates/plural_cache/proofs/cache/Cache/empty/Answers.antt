@@ -3,6 +3,7 @@ use Rattle.plural_cache.specs.Cache.{CacheValue, IsFresh}
 use Rattle.plural_cache.proofs.Stores.{fresh_table}
 use Rattle.plural_cache.proofs.cache.Cache.empty.Goals as goal
 
+-- The answer meets the contract.
 pub returns : goal.returns
 returns c =
     let s = c.self.inside in

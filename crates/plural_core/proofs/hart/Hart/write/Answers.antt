@@ -4,6 +4,7 @@ use Rattle.plural_regions.proofs.Regions.{may_read_from_write}
 use Rattle.plural_core.proofs.hart.Hart.write.Goals as goal
 use Rattle.plural_core.proofs.hart.Hart.write.Goals.{in-Word, in_default}
 
+-- The call of `load` has what it requires.
 pub load-requires : goal.load-requires
 load-requires g c =
     let a = c.args.store.address / 4 in
@@ -15,6 +16,7 @@ load-requires g c =
       room = search rules;
     }
 
+-- The call of `store` has what its clause `within` requires.
 pub store-requires-clause-within : goal.store-requires-clause-within
 store-requires-clause-within g c =
     let a = c.args.store.address / 4 in

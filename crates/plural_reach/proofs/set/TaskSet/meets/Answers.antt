@@ -2,12 +2,14 @@ use Rattle.std.proofs.Common.{⊎_elim}
 use Rattle.plural_reach.proofs.SetLemmas.{number_low, number_high, number_bits}
 use Rattle.plural_reach.proofs.set.TaskSet.meets.Goals as goal
 
+-- The answer at `then-shares` meets the contract.
 pub returns-then-shares : goal.returns-then-shares
 returns-then-shares c = (
   (λ h. number_low c.args.self.now c.args.other.now (c.shares.ensures.some h)),
   (λ h. c.if-shares.true),
 )
 
+-- The answer at `else-shares` meets the contract.
 pub returns-else-shares : goal.returns-else-shares
 returns-else-shares c = (
   (λ h. number_high c.args.self.now c.args.other.now (c.shares-else-shares.ensures.some h)),

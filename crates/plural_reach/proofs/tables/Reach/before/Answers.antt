@@ -2,6 +2,7 @@ use Rattle.std.proofs.Common.{◌<◌, length, sym, ◌∙◌, arith}
 use Rattle.plural_reach.proofs.DepLemmas.{row_at}
 use Rattle.plural_reach.proofs.tables.Reach.before.Goals as goal
 
+-- The answer meets the clause `exact`.
 pub returns-clause-exact : goal.returns-clause-exact
 returns-clause-exact c = λ tasks is l.
     let within : c.args.u < length c.args.self.now.before = omega arith in
