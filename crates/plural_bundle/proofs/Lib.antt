@@ -1,7 +1,6 @@
-pub mod Staged
-pub mod Sectioned
-pub mod Named
-pub mod Valued
-pub mod Past
-pub mod Whole
-pub mod Parted
+pub mod BundleRule
+pub mod BundleSections
+pub mod ReadBundle
+pub mod ValueOfBundle
+pub mod BundleParts
+pub mod UpToEnd

@@ -10,7 +10,6 @@ pub use Rattle.plural_serial.specs.Program
 pub mod Sections
 pub mod FirstLine
 pub mod Rules
-pub mod Borders
 pub mod Value
 pub mod Answer
 pub mod Laws

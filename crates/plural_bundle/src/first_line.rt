@@ -1,10 +1,9 @@
 //! The first line of a bundle.
 
-ghost use Rattle.std.specs.Prelude.{◌≡◌, ◌≤◌, length, MatchResult, IfOk};
+ghost use Rattle.std.specs.Prelude.{◌≡◌, IfOk, MatchResult};
 ghost use Rattle.plural_bytes.specs.Numerals.{numeral};
 ghost use Rattle.plural_bytes.specs.Spelled.{text_lines};
-ghost use Rattle.plural_bundle.specs.Borders.{IsBegun, IsBadFirst};
-ghost use Rattle.plural_bundle.specs.FirstLine.{version_fault, first_line_fault};
+ghost use Rattle.plural_bundle.specs.FirstLine.{version_read, first_line, IsBegun, IsBadFirst};
 
 use crate::fault::BundleError;
 use plural_bytes::{Line, NumberError, is_word, next_token, number};
@@ -13,47 +12,63 @@ use plural_sections::{Fault, first_number, first_text};
 /// The version of bundles that is read.
 const VERSION: u64 = 1;
 
-fn version_fault(text: &[u8]) -> Option<Fault>
-    ensures { result ≡ version_fault (numeral text.now) }
+/// What follows the first line of a bundle.
+#[derive(Clone, Copy)]
+pub(crate) struct Begun<'a, 'b> {
+    /// The version that the first line tells.
+    pub(crate) version: u32,
+    /// The lines after it.
+    pub(crate) rest: &'a [Line<'b>],
+}
+
+fn version_read(text: &[u8]) -> Result<u32, Fault>
+    ensures read { result ≡ version_read (numeral text.now) }
+    ensures one { IfOk result (λ v. v ≡ 1) }
 {
     match number(text, VERSION) {
-        Ok(VERSION) => None,
-        Err(NumberError::Form) => Some(Fault::Form),
-        _ => Some(Fault::Number),
+        Ok(VERSION) => Ok(1),
+        Err(NumberError::Form) => Err(Fault::Form),
+        _ => Err(Fault::Number),
     }
 }
 
-/// The fault of a first line, if it has one: it is `plural` and a version.
-pub(crate) fn first_line_fault(text: &[u8]) -> Option<Fault>
-    ensures { result ≡ first_line_fault text.now }
+/// The version that a first line tells: it is `plural` and a version that is read.
+fn first_line(text: &[u8]) -> Result<u32, Fault>
+    ensures told { result ≡ first_line text.now }
+    ensures one { IfOk result (λ v. v ≡ 1) }
 {
     let (word, rest) = match next_token(text) {
-        None => return Some(Fault::Form),
+        None => return Err(Fault::Form),
         Some(found) => found,
     };
     let (version, rest) = match next_token(rest) {
-        None => return Some(Fault::Form),
+        None => return Err(Fault::Form),
         Some(found) => found,
     };
     if next_token(rest).is_some() || !is_word(word, b"plural") {
-        return Some(Fault::Form);
+        return Err(Fault::Form);
     }
-    version_fault(version)
+    version_read(version)
 }
 
-/// The lines after the first line of a bundle, or its fault.
-pub(crate) fn after_first<'a, 'b>(
+/// The version that the first line of a bundle tells, and the lines after it; or its fault.
+pub(crate) fn after_first_line<'a, 'b>(
     lines: &'a [Line<'b>],
     end: u32,
-) -> Result<&'a [Line<'b>], BundleError>
-    ensures answer { MatchResult result (λ rest. IsBegun (text_lines lines.now) (text_lines rest.now)) (IsBadFirst (text_lines lines.now) end) }
-    ensures few { IfOk result (λ rest. length rest.now ≤ length lines.now) }
+) -> Result<Begun<'a, 'b>, BundleError>
+    ensures answer { MatchResult result
+        (λ b. IsBegun (text_lines lines.now) (text_lines b.rest.now) b.version)
+        (IsBadFirst (text_lines lines.now) end) }
+    ensures one { IfOk result (λ b. b.version ≡ 1) }
 {
-    match first_line_fault(first_text(lines)) {
-        Some(kind) => Err(BundleError::At {
+    match first_line(first_text(lines)) {
+        Err(fault) => Err(BundleError::At {
             line: first_number(lines, end),
-            kind,
+            kind: fault,
         }),
-        None => Ok(&lines[1..]),
+        Ok(version) => Ok(Begun {
+            version,
+            rest: &lines[1..],
+        }),
     }
 }

@@ -7,7 +7,7 @@ ghost use Rattle.plural_bundle.specs.Answer.{IsBundle, Faults};
 
 use crate::bundle::Bundle;
 use crate::fault::BundleError;
-use crate::first_line::after_first;
+use crate::first_line::after_first_line;
 use crate::program::program;
 use plural_asm::{assemble, names};
 use plural_bytes::Line;
@@ -20,15 +20,14 @@ use std::alloc::Global;
 
 /// The program and the image that the content lines of a bundle spell, or their first fault. The
 /// names that an entry may be are those at the label positions of the kernel lines of `input`, which
-/// are the content lines of the whole text that the bundle stands in: its own where nothing follows
-/// it. `end` is the number of the line that a text which ends too early is charged to.
+/// are the content lines of the whole text that the bundle stands in: its own if nothing follows it.
+/// `end` is the number of the line that a text which ends too early is charged to.
 pub fn read_bundle(
     alloc: Global,
     input: &[Line<'_>],
     lines: &[Line<'_>],
     end: u32,
 ) -> Result<Bundle, BundleError>
-    requires { length lines.now ≤ 67108864 }
     ensures answer { MatchResult result
         (λ b. IsBundle (text_lines input.now) (text_lines lines.now) end × (b ≡ bundle_of (text_lines lines.now)))
         (Faults (text_lines input.now) (text_lines lines.now) end) }
@@ -37,9 +36,10 @@ pub fn read_bundle(
     ensures small { IfOk result (λ b. length b.image ≤ 1048576) }
 {
     let labels = names(alloc, section_of(input, b"[kernels]"))?;
-    let map = next_section(after_header(after_first(lines, end)?, b"[map]", end)?);
+    let begun = after_first_line(lines, end)?;
+    let map = next_section(after_header(begun.rest, b"[map]", end)?);
     let closing = first_number(map.rest, end);
-    let tasks = renamed(parse(alloc, map.lines, &labels, closing, 1))?;
+    let tasks = renamed(parse(alloc, map.lines, &labels, closing, begun.version))?;
     let kernels = next_section(after_header(map.rest, b"[kernels]", end)?);
     let object = renamed(assemble(alloc, kernels.lines))?;
     let image = next_section(after_header(kernels.rest, b"[image]", end)?);

@@ -4,3 +4,4 @@ pub mod WordLines
 pub mod WholeInputs
 pub mod LogTasks
 pub mod CommandWords
+pub mod JointLines

@@ -35,5 +35,6 @@ pub mod Reading
 pub mod Check
 pub mod Run
 pub mod Made
+pub mod Joint
 pub mod Verify
 pub mod Output

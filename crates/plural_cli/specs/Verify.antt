@@ -5,17 +5,17 @@ use Rattle.plural_bytes.specs.Lines.{TextLine, content_lines}
 use Rattle.plural_sections.specs.Faults.{closed}
 use Rattle.plural_sections.specs.Kinds.{rank}
 use Rattle.plural_bundle.specs.Value.{BundleValue, bundle_of}
-use Rattle.plural_bundle.specs.Answer.{IsBundle}
 use Rattle.plural_crew.specs.Clashes.{IsAccepted}
 use Rattle.plural_trace.specs.declared.verdict.Verdict.{Verdict}
 use Rattle.plural_trace.specs.declared.verdict.Verdict.TheVariants as verdict
 use Rattle.plural_trace.specs.Verdicts.{expected_of, IsVerdict}
-use Rattle.plural_output.specs.Parts.{bundle_part, output_part}
 use Rattle.plural_output.specs.Rules.{Breaks}
 use Rattle.plural_output.specs.Value.{OutputValue, output_of}
 use Rattle.plural_output.specs.Answer.{IsOutput}
 use Rattle.plural_cli.specs.FaultLine.{bundle_fault_text, IsRefused}
-use Rattle.plural_cli.specs.Lines.{line_after, IsFaulty}
+use Rattle.plural_cli.specs.Lines.{line_after}
+use Rattle.plural_cli.specs.Joint as joint
+use Rattle.plural_cli.specs.Joint.{IsJoint, output_in}
 use Rattle.plural_cli.specs.Check.{IsClashing}
 
 -- The line for a log that is legal, with so many entries.
@@ -66,17 +66,12 @@ IsFaultyOutput b lines end status text =
 abbrev pub IsOutputAnswer : BundleValue → (lines : List TextLine) (end : ℕ) (status : ℕ) (text : List ℕ) → Type 0
 IsOutputAnswer b lines end status text = IsReadWhole b lines end status text ⊎ IsFaultyOutput b lines end status text
 
--- An input of which the first part is a bundle: the output after it is answered.
-pub record IsBundleAndOutput (input bundle output : List TextLine) (end : ℕ) (status : ℕ) (text : List ℕ) : Type 0 where
-  pub whole : IsBundle input bundle end
-  pub answer : IsOutputAnswer (bundle_of bundle) output end status text
-
--- The lines up to the first `[end]` have a fault, which is told; or they are a bundle, and the output after it is
--- judged.
+-- The lines are a bundle and the output of a run of it: the first clash is told, or the verdict. Or they have a fault, and
+-- the first is told.
 abbrev pub IsJointAnswer : (lines : List TextLine) (end : ℕ) (status : ℕ) (text : List ℕ) → Type 0
 IsJointAnswer lines end status text =
-    IsFaulty lines (bundle_part lines) end status text
-    ⊎ IsBundleAndOutput lines (bundle_part lines) (output_part lines) end status text
+    (IsJoint lines end × IsVerdictOn (bundle_of lines) (output_in lines) status text)
+    ⊎ IsRefused rank bundle_fault_text (joint.Breaks lines) (closed lines end) status text
 
 -- The answer to an input is that to its content lines.
 abbrev pub IsVerifyAnswer : (bytes : List ℕ) (status : ℕ) (text : List ℕ) → Type 0

@@ -4,3 +4,4 @@ pub mod PrintedRows
 pub mod RowRoundTrip
 pub mod ImageRoundTrip
 pub mod PlainLines
+pub mod ImageLength

@@ -13,7 +13,7 @@ use Rattle.plural_generator.specs.Text.{made_text}
 use Rattle.plural_bundle.specs.Answer.{IsBundle}
 use Rattle.plural_bundle.specs.Value.{program_with, bundle_of}
 use Rattle.plural_bundle.specs.Laws.{AreGood, lines_of}
-use Rattle.plural_bundle.proofs.Parted.{parts_make_a_bundle}
+use Rattle.plural_bundle.proofs.BundleParts.{parts_make_a_bundle}
 use Rattle.plural_made.specs.Laws.{made_kernels, made_bundle, MadeIsRead}
 use Rattle.plural_made.proofs.LineNumbers.{lines_again}
 use Rattle.plural_made.proofs.TextLines.{parts_with, cut}

@@ -74,6 +74,7 @@ text_with maps kernels words = codes "plural 1\n[map]\n" ++ (maps ++ (codes "[ke
 abbrev pub parts_with : (maps kernels words : List ℕ) (at_kernels at_image at_end : ℕ) → Parts
 parts_with maps kernels words at_kernels at_image at_end = record {
   first = (1, codes "plural 1");
+  version = 1;
   at_map = 2;
   map_part = lines_from 3 maps;
   at_kernels = at_kernels;

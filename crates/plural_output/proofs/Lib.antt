@@ -1,6 +1,3 @@
-pub mod Staged
-pub mod Sectioned
-pub mod Named
-pub mod Past
-pub mod Whole
-pub mod Parted
+pub mod OutputRule
+pub mod ReadOutput
+pub mod InputParts

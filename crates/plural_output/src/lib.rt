@@ -4,15 +4,17 @@
 //! the lines of an output spell (`specs/Value.antt`), or exactly the first line with a fault and its least kind
 //! (`specs/Rules.antt`); `split_parts` cuts a verifier's input into a bundle and an output (`specs/Parts.antt`).
 //!
-//! Stands on `plural_log` and `plural_image`, which print and read the sections, and on `plural_bundle`, which cuts them
-//! and whose faults it answers. `plural_cli` prints what it runs and reads what it verifies by it.
+//! Stands on `plural_log` and `plural_image`, which print and read the sections, and on `plural_sections`, which cuts
+//! them. `plural_cli` prints what it runs and reads what it verifies by it.
 #![tactic(auto)]
 
+mod fault;
 mod output;
 mod parts;
 mod printing;
 mod read;
 
+pub use fault::OutputError;
 pub use output::Output;
 pub use parts::{Parts, split_parts};
 pub use printing::print_output;

@@ -1,7 +1,7 @@
 use plural_trace::Log;
 use std::marker::Model;
 
-/// The output of a run: its log, and the memory's words behind it, as many as its map has.
+/// The output of a run: its log, and the memory's words after it, as many as its map has.
 #[derive(Drop)]
 pub struct Output {
     pub log: Log,

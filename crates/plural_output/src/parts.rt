@@ -7,7 +7,7 @@ ghost use Rattle.plural_output.specs.Parts.{bundle_part, output_part};
 
 use plural_bytes::{Line, is_word};
 
-/// The content lines of a bundle, up to its `[end]`, and those of the output of a run behind it.
+/// The content lines of a bundle, up to its `[end]`, and those of the output of a run after it.
 #[derive(Clone, Copy)]
 pub struct Parts<'a, 'b> {
     pub bundle: &'a [Line<'b>],
@@ -20,9 +20,10 @@ fn find_end(lines: &[Line<'_>]) -> Option<usize>
     lines.iter().position(|l| is_word(l.text, b"[end]"))
 }
 
-/// How many lines stand up to the first that is the end of a bundle, with it; all where none is.
+/// How many lines stand up to the first that is the end of a bundle, with it; all if none is.
 fn bundle_len(lines: &[Line<'_>]) -> usize
-    ensures bundle { take result lines.now ≡ take (position_or_len (λ l. bytes_eq l.text.now (codes "[end]")) lines.now + 1) lines.now }
+    ensures bundle { take result lines.now
+        ≡ take (position_or_len (λ l. bytes_eq l.text.now (codes "[end]")) lines.now + 1) lines.now }
     ensures output { drop result lines.now ≡ after_first (λ l. bytes_eq l.text.now (codes "[end]")) lines.now }
     ensures few { result ≤ length lines.now }
 {
@@ -32,12 +33,10 @@ fn bundle_len(lines: &[Line<'_>]) -> usize
     }
 }
 
-/// Cuts the content lines of a verifier's input behind the first that is `[end]`. Where none is, all are the bundle's.
+/// Cuts the content lines of a verifier's input after the first that is `[end]`. If none is, all are the bundle's.
 pub fn split_parts<'a, 'b>(lines: &'a [Line<'b>]) -> Parts<'a, 'b>
     ensures bundle { text_lines result.bundle.now ≡ bundle_part (text_lines lines.now) }
     ensures output { text_lines result.output.now ≡ output_part (text_lines lines.now) }
-    ensures few { length result.bundle.now ≤ length lines.now }
-    ensures rest { length result.output.now ≤ length lines.now }
 {
     let n = bundle_len(lines);
     Parts {

@@ -12,7 +12,7 @@ use plural_trace::Log;
 use std::alloc::Global;
 
 /// The output of a run of the map: its log, which has one outcome for each task and whose entries are of its tasks, and
-/// the memory's words behind it.
+/// the memory's words after it.
 pub fn print_output(alloc: Global, map: &Map, log: &Log, image: &[u32]) -> Result<Vec<u8>, Memory>
     requires one_each { length log.now.outcomes ≡ length map.now.tasks }
     requires tasks { All (λ (e : Entry). e.rec.t < length map.now.tasks) log.now.entries }

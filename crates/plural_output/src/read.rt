@@ -7,8 +7,8 @@ ghost use Rattle.plural_trace.specs.declared.entry.Entry.{Entry};
 ghost use Rattle.plural_output.specs.Value.{output_of};
 ghost use Rattle.plural_output.specs.Answer.{IsOutput, Faults};
 
+use crate::fault::OutputError;
 use crate::output::Output;
-use plural_bundle::BundleError;
 use plural_bytes::Line;
 use plural_image::read_image;
 use plural_log::read_log;
@@ -23,10 +23,10 @@ pub fn read_output(
     map: &Map,
     lines: &[Line<'_>],
     end: u32,
-) -> Result<Output, BundleError>
-    requires { length lines.now ≤ 67108864 }
+) -> Result<Output, OutputError>
     ensures answer { MatchResult result
-        (λ o. IsOutput map.now.tasks map.now.words (text_lines lines.now) end × (o ≡ output_of map.now.tasks map.now.words (text_lines lines.now)))
+        (λ o. IsOutput map.now.tasks map.now.words (text_lines lines.now) end
+        × (o ≡ output_of map.now.tasks map.now.words (text_lines lines.now)))
         (Faults map.now.tasks map.now.words (text_lines lines.now) end) }
     ensures image { IfOk result (λ o. length o.image ≡ map.now.words) }
     ensures one_each { IfOk result (λ o. length o.log.outcomes ≡ length map.now.tasks) }
@@ -38,6 +38,7 @@ pub fn read_output(
     let log = renamed(read_log(alloc, map, section.lines, closing))?;
     let section = next_section(after_header(section.rest, b"[image]", end)?);
     let image = renamed(read_image(alloc, section.lines, map.words()))?;
-    nothing_after(after_header(section.rest, b"[end]", end)?)?;
+    let rest = after_header(section.rest, b"[end]", end)?;
+    nothing_after(rest)?;
     Ok(Output { log, image })
 }

@@ -10,8 +10,8 @@ not_nil : {A : Type 0} (ys : List A) (y : A) (zs : List A) → [] ≡ ys ++ y �
 not_nil [] y zs e = absurd cc
 not_nil (b ∷ bs) y zs e = absurd cc
 
--- an element of a list with one more at its end is that one, or stands in the list
-split_last : {A : Type 0} (xs ys : List A) (x y : A) (zs : List A) → xs ++ x ∷ [] ≡ ys ++ y ∷ zs → ((xs ≡ ys) × (x ≡ y)) ⊎ ((ws : List A) × (xs ≡ ys ++ y ∷ ws))
+-- An element of a list with one more at its end is that one, or stands in the list.
+pub split_last : {A : Type 0} (xs ys : List A) (x y : A) (zs : List A) → xs ++ x ∷ [] ≡ ys ++ y ∷ zs → ((xs ≡ ys) × (x ≡ y)) ⊎ ((ws : List A) × (xs ≡ ys ++ y ∷ ws))
 split_last [] [] x y zs e = inl (refl, cc)
 split_last [] (b ∷ bs) x y zs e = let f : [] ≡ bs ++ y ∷ zs = cc in absurd (not_nil bs y zs f)
 split_last (a ∷ cs) [] x y zs e = let f : a ≡ y = cc in inr (cs, rw f refl)

@@ -1,4 +1,4 @@
-use Rattle.plural_bundle.proofs.Parted.{a_bundle_has_parts}
+use Rattle.plural_bundle.proofs.BundleParts.{a_bundle_has_parts}
 use Rattle.plural_bundle.proofs.laws.a_bundle_has_parts.Goals as goal
 
 pub returns : goal.returns

@@ -1,4 +1,4 @@
-use Rattle.plural_bundle.proofs.Parted.{parts_make_a_bundle}
+use Rattle.plural_bundle.proofs.BundleParts.{parts_make_a_bundle}
 use Rattle.plural_bundle.proofs.laws.parts_make_a_bundle.Goals as goal
 
 pub returns : goal.returns

@@ -1,7 +1,7 @@
 use Rattle.std.proofs.Common.{◌∙◌, ◌≡◌, map}
 use Rattle.plural_map.specs.Value.{TaskValue}
 use Rattle.plural_bundle.specs.Value.{pc_of}
-use Rattle.plural_bundle.proofs.Valued.{is_program}
+use Rattle.plural_bundle.proofs.ValueOfBundle.{is_program}
 use Rattle.plural_bundle.proofs.program.program.Goals as goal
 
 pub of-requires : goal.of-requires

@@ -1,113 +1,135 @@
 use Rattle.std.proofs.Common.{ℕ, ap, sym, subst, ◌∙◌, length, ◌%◌, arith}
 use Rattle.plural_bytes.specs.Spelled.{text_lines}
+use Rattle.plural_sections.proofs.PassedErrors.{answered, value_passed, error_passed}
 use Rattle.plural_map.specs.Value.{MapValue}
-use Rattle.plural_serial.specs.Program.{ProgramValue}
-use Rattle.plural_asm.specs.Labels.{names_of}
 use Rattle.plural_map_text.specs.Kinds.{map_fault}
 use Rattle.plural_asm.specs.Kinds.{kernel_fault}
+use Rattle.plural_asm.specs.Labels.{names_of}
 use Rattle.plural_image.specs.Kinds.{image_fault}
-use Rattle.plural_sections.proofs.PassedErrors.{value_passed, error_passed}
+use Rattle.plural_serial.specs.Program.{ProgramValue}
 use Rattle.plural_bundle.specs.Answer.{Faults}
-use Rattle.plural_bundle.proofs.Staged.{first_bad, no_map}
-use Rattle.plural_bundle.proofs.Valued.{AreAligned, labels_aligned, image_length}
-use Rattle.plural_bundle.proofs.Whole.{answered, at_map, at_kernels, at_image, kernels_missing, map_faults, kernels_faults, image_missing, image_faults, end_missing, left_faults, is_bundle, value_is}
+use Rattle.plural_bundle.proofs.BundleRule.{first_bad, no_map}
+use Rattle.plural_bundle.proofs.ReadBundle.{at_map, at_kernels, at_image, kernels_missing, map_faults, kernels_faults, image_missing, image_faults, end_missing, left_faults, is_bundle, value_is}
+use Rattle.plural_bundle.proofs.ValueOfBundle.{AreAligned, labels_aligned}
+use Rattle.plural_image.proofs.ImageLength.{image_length}
 use Rattle.plural_bundle.proofs.read.read_bundle.Goals as goal
 
-pub returns-in_err-after_first-clause-answer : goal.returns-in_err-after_first-clause-answer
-returns-in_err-after_first-clause-answer c =
-    answered c.from_residual-in_err-after_first.result _ _ c.in_err-after_first.field-0.0 c.from_residual-in_err-after_first.ensures.1 (first_bad (text_lines c.args.input.now) _ c.args.end _ c.in_err-after_first.ensures.answer)
+pub returns-in_err-begun-clause-answer : goal.returns-in_err-begun-clause-answer
+returns-in_err-begun-clause-answer c =
+    answered c.from_residual-in_err-begun.result _ _ c.in_err-begun.field-0.0 c.from_residual-in_err-begun.ensures.1
+    (first_bad (text_lines c.args.input.now) _ c.args.end _ c.in_err-begun.ensures.answer)
 
 pub returns-in_err-after_header-clause-answer : goal.returns-in_err-after_header-clause-answer
 returns-in_err-after_header-clause-answer c =
-    answered c.from_residual-in_err-after_header.result _ _ c.in_err-after_header.field-0.0 c.from_residual-in_err-after_header.ensures.1 (no_map (text_lines c.args.input.now) _ _ c.args.end _ c.in_ok-after_first.ensures.answer c.in_err-after_header.ensures.answer)
+    answered c.from_residual-in_err-after_header.result _ _ c.in_err-after_header.field-0.0 c.from_residual-in_err-after_header.ensures.1
+    (no_map (text_lines c.args.input.now) c.in_ok-begun.ensures.answer c.args.end _ c.in_err-after_header.ensures.answer)
 
 pub returns-in_err-tasks-clause-answer : goal.returns-in_err-tasks-clause-answer
 returns-in_err-tasks-clause-answer c =
-    let m = at_map c.in_ok-after_first.ensures.answer c.in_ok-after_header.ensures.answer c.next_section-map.ensures.lines c.next_section-map.ensures.whole c.next_section-map.ensures.closed in
     let names = c.deref.ensures.value ∙ c.in_ok-labels.ensures ∙ ap names_of c.section_of.ensures.section in
+    let m = at_map (text_lines c.args.input.now) names c.in_ok-begun.ensures.answer c.in_ok-after_header.ensures.answer c.next_section-map.ensures.lines c.next_section-map.ensures.whole c.next_section-map.ensures.closed in
     answered c.from_residual-in_err-tasks.result _ _ c.in_err-tasks.field-0.0 c.from_residual-in_err-tasks.ensures.1
     (error_passed map_fault c.parse.result c.in_err-tasks.field-0.0 _ _ (Faults (text_lines c.args.input.now) (text_lines c.args.lines.now) c.args.end) c.parse.ensures c.in_err-tasks.ensures
-    (λ e f. map_faults (text_lines c.args.input.now) _ _ _ _ _ m c.args.end c.first_number-closing.result c.deref.result.now e names c.first_number-closing.ensures f))
+    (λ e f. map_faults m c.args.end c.first_number-closing.result e c.first_number-closing.ensures f))
 
 pub returns-in_err-after_header-2-clause-answer : goal.returns-in_err-after_header-2-clause-answer
 returns-in_err-after_header-2-clause-answer c =
-    let m = at_map c.in_ok-after_first.ensures.answer c.in_ok-after_header.ensures.answer c.next_section-map.ensures.lines c.next_section-map.ensures.whole c.next_section-map.ensures.closed in
     let names = c.deref.ensures.value ∙ c.in_ok-labels.ensures ∙ ap names_of c.section_of.ensures.section in
+    let m = at_map (text_lines c.args.input.now) names c.in_ok-begun.ensures.answer c.in_ok-after_header.ensures.answer c.next_section-map.ensures.lines c.next_section-map.ensures.whole c.next_section-map.ensures.closed in
+    let tasks = value_passed _ _ _ _ c.parse.ensures c.in_ok-tasks.ensures in
     answered c.from_residual-in_err-after_header-2.result _ _ c.in_err-after_header-2.field-0.0 c.from_residual-in_err-after_header-2.ensures.1
-    (kernels_missing (text_lines c.args.input.now) _ _ _ _ _ m c.args.end c.first_number-closing.result c.deref.result.now c.in_err-after_header-2.field-0.0 names (value_passed _ _ _ _ c.parse.ensures c.in_ok-tasks.ensures).0 c.in_err-after_header-2.ensures.answer)
+    (kernels_missing m c.args.end c.first_number-closing.result tasks.0 c.in_err-after_header-2.field-0.0 c.in_err-after_header-2.ensures.answer)
 
 pub returns-in_err-object-clause-answer : goal.returns-in_err-object-clause-answer
 returns-in_err-object-clause-answer c =
-    let m = at_map c.in_ok-after_first.ensures.answer c.in_ok-after_header.ensures.answer c.next_section-map.ensures.lines c.next_section-map.ensures.whole c.next_section-map.ensures.closed in
     let names = c.deref.ensures.value ∙ c.in_ok-labels.ensures ∙ ap names_of c.section_of.ensures.section in
-    let k = at_kernels (text_lines c.args.input.now) m names (value_passed _ _ _ _ c.parse.ensures c.in_ok-tasks.ensures).0 c.in_ok-after_header-2.ensures.answer c.next_section-kernels.ensures.lines c.next_section-kernels.ensures.whole c.next_section-kernels.ensures.closed in
+    let m = at_map (text_lines c.args.input.now) names c.in_ok-begun.ensures.answer c.in_ok-after_header.ensures.answer c.next_section-map.ensures.lines c.next_section-map.ensures.whole c.next_section-map.ensures.closed in
+    let tasks = value_passed _ _ _ _ c.parse.ensures c.in_ok-tasks.ensures in
+    let k = at_kernels m tasks.0 c.in_ok-after_header-2.ensures.answer c.next_section-kernels.ensures.lines c.next_section-kernels.ensures.whole c.next_section-kernels.ensures.closed in
     answered c.from_residual-in_err-object.result _ _ c.in_err-object.field-0.0 c.from_residual-in_err-object.ensures.1
     (error_passed kernel_fault c.assemble.result c.in_err-object.field-0.0 _ _ (Faults (text_lines c.args.input.now) (text_lines c.args.lines.now) c.args.end) c.assemble.ensures c.in_err-object.ensures
-    (λ e f. kernels_faults (text_lines c.args.input.now) _ _ _ _ _ _ _ _ _ _ k c.args.end e f))
+    (λ e f. kernels_faults k c.args.end e f))
 
 pub returns-in_err-after_header-3-clause-answer : goal.returns-in_err-after_header-3-clause-answer
 returns-in_err-after_header-3-clause-answer c =
-    let m = at_map c.in_ok-after_first.ensures.answer c.in_ok-after_header.ensures.answer c.next_section-map.ensures.lines c.next_section-map.ensures.whole c.next_section-map.ensures.closed in
     let names = c.deref.ensures.value ∙ c.in_ok-labels.ensures ∙ ap names_of c.section_of.ensures.section in
-    let k = at_kernels (text_lines c.args.input.now) m names (value_passed _ _ _ _ c.parse.ensures c.in_ok-tasks.ensures).0 c.in_ok-after_header-2.ensures.answer c.next_section-kernels.ensures.lines c.next_section-kernels.ensures.whole c.next_section-kernels.ensures.closed in
+    let m = at_map (text_lines c.args.input.now) names c.in_ok-begun.ensures.answer c.in_ok-after_header.ensures.answer c.next_section-map.ensures.lines c.next_section-map.ensures.whole c.next_section-map.ensures.closed in
+    let tasks = value_passed _ _ _ _ c.parse.ensures c.in_ok-tasks.ensures in
+    let k = at_kernels m tasks.0 c.in_ok-after_header-2.ensures.answer c.next_section-kernels.ensures.lines c.next_section-kernels.ensures.whole c.next_section-kernels.ensures.closed in
+    let object = value_passed _ _ _ _ c.assemble.ensures c.in_ok-object.ensures in
     answered c.from_residual-in_err-after_header-3.result _ _ c.in_err-after_header-3.field-0.0 c.from_residual-in_err-after_header-3.ensures.1
-    (image_missing (text_lines c.args.input.now) _ _ _ _ _ _ _ _ _ _ k c.args.end c.in_err-after_header-3.field-0.0 (value_passed _ _ _ _ c.assemble.ensures c.in_ok-object.ensures).0 c.in_err-after_header-3.ensures.answer)
+    (image_missing k c.args.end object.0 c.in_err-after_header-3.field-0.0 c.in_err-after_header-3.ensures.answer)
 
 pub returns-in_err-words-clause-answer : goal.returns-in_err-words-clause-answer
 returns-in_err-words-clause-answer c =
-    let m = at_map c.in_ok-after_first.ensures.answer c.in_ok-after_header.ensures.answer c.next_section-map.ensures.lines c.next_section-map.ensures.whole c.next_section-map.ensures.closed in
     let names = c.deref.ensures.value ∙ c.in_ok-labels.ensures ∙ ap names_of c.section_of.ensures.section in
-    let k = at_kernels (text_lines c.args.input.now) m names (value_passed _ _ _ _ c.parse.ensures c.in_ok-tasks.ensures).0 c.in_ok-after_header-2.ensures.answer c.next_section-kernels.ensures.lines c.next_section-kernels.ensures.whole c.next_section-kernels.ensures.closed in
-    let i = at_image k (value_passed _ _ _ _ c.assemble.ensures c.in_ok-object.ensures).0 c.in_ok-after_header-3.ensures.answer c.next_section-image.ensures.lines c.next_section-image.ensures.whole c.next_section-image.ensures.closed in
-    let w = c.words.ensures.value ∙ ap (λ (x : MapValue). x.words) (value_passed _ _ _ _ c.parse.ensures c.in_ok-tasks.ensures).1 in
+    let m = at_map (text_lines c.args.input.now) names c.in_ok-begun.ensures.answer c.in_ok-after_header.ensures.answer c.next_section-map.ensures.lines c.next_section-map.ensures.whole c.next_section-map.ensures.closed in
+    let tasks = value_passed _ _ _ _ c.parse.ensures c.in_ok-tasks.ensures in
+    let k = at_kernels m tasks.0 c.in_ok-after_header-2.ensures.answer c.next_section-kernels.ensures.lines c.next_section-kernels.ensures.whole c.next_section-kernels.ensures.closed in
+    let object = value_passed _ _ _ _ c.assemble.ensures c.in_ok-object.ensures in
+    let i = at_image k object.0 c.in_ok-after_header-3.ensures.answer c.next_section-image.ensures.lines c.next_section-image.ensures.whole c.next_section-image.ensures.closed in
+    let w = c.words.ensures.value ∙ ap (λ (x : MapValue). x.words) tasks.1 in
     answered c.from_residual-in_err-words.result _ _ c.in_err-words.field-0.0 c.from_residual-in_err-words.ensures.1
     (error_passed image_fault c.read_image.result c.in_err-words.field-0.0 _ _ (Faults (text_lines c.args.input.now) (text_lines c.args.lines.now) c.args.end) c.read_image.ensures c.in_err-words.ensures
-    (λ e f. image_faults (text_lines c.args.input.now) _ _ _ _ _ _ _ _ _ _ _ _ _ i c.args.end c.words.result e w f))
+    (λ e f. image_faults i c.args.end c.words.result w e f))
 
 pub returns-in_err-after_header-4-clause-answer : goal.returns-in_err-after_header-4-clause-answer
 returns-in_err-after_header-4-clause-answer c =
-    let m = at_map c.in_ok-after_first.ensures.answer c.in_ok-after_header.ensures.answer c.next_section-map.ensures.lines c.next_section-map.ensures.whole c.next_section-map.ensures.closed in
     let names = c.deref.ensures.value ∙ c.in_ok-labels.ensures ∙ ap names_of c.section_of.ensures.section in
-    let k = at_kernels (text_lines c.args.input.now) m names (value_passed _ _ _ _ c.parse.ensures c.in_ok-tasks.ensures).0 c.in_ok-after_header-2.ensures.answer c.next_section-kernels.ensures.lines c.next_section-kernels.ensures.whole c.next_section-kernels.ensures.closed in
-    let i = at_image k (value_passed _ _ _ _ c.assemble.ensures c.in_ok-object.ensures).0 c.in_ok-after_header-3.ensures.answer c.next_section-image.ensures.lines c.next_section-image.ensures.whole c.next_section-image.ensures.closed in
-    let w = c.words.ensures.value ∙ ap (λ (x : MapValue). x.words) (value_passed _ _ _ _ c.parse.ensures c.in_ok-tasks.ensures).1 in
+    let m = at_map (text_lines c.args.input.now) names c.in_ok-begun.ensures.answer c.in_ok-after_header.ensures.answer c.next_section-map.ensures.lines c.next_section-map.ensures.whole c.next_section-map.ensures.closed in
+    let tasks = value_passed _ _ _ _ c.parse.ensures c.in_ok-tasks.ensures in
+    let k = at_kernels m tasks.0 c.in_ok-after_header-2.ensures.answer c.next_section-kernels.ensures.lines c.next_section-kernels.ensures.whole c.next_section-kernels.ensures.closed in
+    let object = value_passed _ _ _ _ c.assemble.ensures c.in_ok-object.ensures in
+    let i = at_image k object.0 c.in_ok-after_header-3.ensures.answer c.next_section-image.ensures.lines c.next_section-image.ensures.whole c.next_section-image.ensures.closed in
+    let w = c.words.ensures.value ∙ ap (λ (x : MapValue). x.words) tasks.1 in
+    let words = value_passed _ _ _ _ c.read_image.ensures c.in_ok-words.ensures in
     answered c.from_residual-in_err-after_header-4.result _ _ c.in_err-after_header-4.field-0.0 c.from_residual-in_err-after_header-4.ensures.1
-    (end_missing (text_lines c.args.input.now) _ _ _ _ _ _ _ _ _ _ _ _ _ i c.args.end c.words.result c.in_err-after_header-4.field-0.0 w (value_passed _ _ _ _ c.read_image.ensures c.in_ok-words.ensures).0 c.in_err-after_header-4.ensures.answer)
+    (end_missing i c.args.end c.words.result w words.0 c.in_err-after_header-4.field-0.0 c.in_err-after_header-4.ensures.answer)
 
 pub returns-in_err-nothing_after-clause-answer : goal.returns-in_err-nothing_after-clause-answer
 returns-in_err-nothing_after-clause-answer c =
-    let m = at_map c.in_ok-after_first.ensures.answer c.in_ok-after_header.ensures.answer c.next_section-map.ensures.lines c.next_section-map.ensures.whole c.next_section-map.ensures.closed in
     let names = c.deref.ensures.value ∙ c.in_ok-labels.ensures ∙ ap names_of c.section_of.ensures.section in
-    let k = at_kernels (text_lines c.args.input.now) m names (value_passed _ _ _ _ c.parse.ensures c.in_ok-tasks.ensures).0 c.in_ok-after_header-2.ensures.answer c.next_section-kernels.ensures.lines c.next_section-kernels.ensures.whole c.next_section-kernels.ensures.closed in
-    let i = at_image k (value_passed _ _ _ _ c.assemble.ensures c.in_ok-object.ensures).0 c.in_ok-after_header-3.ensures.answer c.next_section-image.ensures.lines c.next_section-image.ensures.whole c.next_section-image.ensures.closed in
-    let w = c.words.ensures.value ∙ ap (λ (x : MapValue). x.words) (value_passed _ _ _ _ c.parse.ensures c.in_ok-tasks.ensures).1 in
+    let m = at_map (text_lines c.args.input.now) names c.in_ok-begun.ensures.answer c.in_ok-after_header.ensures.answer c.next_section-map.ensures.lines c.next_section-map.ensures.whole c.next_section-map.ensures.closed in
+    let tasks = value_passed _ _ _ _ c.parse.ensures c.in_ok-tasks.ensures in
+    let k = at_kernels m tasks.0 c.in_ok-after_header-2.ensures.answer c.next_section-kernels.ensures.lines c.next_section-kernels.ensures.whole c.next_section-kernels.ensures.closed in
+    let object = value_passed _ _ _ _ c.assemble.ensures c.in_ok-object.ensures in
+    let i = at_image k object.0 c.in_ok-after_header-3.ensures.answer c.next_section-image.ensures.lines c.next_section-image.ensures.whole c.next_section-image.ensures.closed in
+    let w = c.words.ensures.value ∙ ap (λ (x : MapValue). x.words) tasks.1 in
+    let words = value_passed _ _ _ _ c.read_image.ensures c.in_ok-words.ensures in
     answered c.from_residual-in_err-nothing_after.result _ _ c.in_err-nothing_after.field-0.0 c.from_residual-in_err-nothing_after.ensures.1
-    (left_faults (text_lines c.args.input.now) _ _ _ _ _ _ _ _ _ _ _ _ _ i c.args.end c.words.result _ c.in_err-nothing_after.field-0.0 w (value_passed _ _ _ _ c.read_image.ensures c.in_ok-words.ensures).0 c.in_ok-after_header-4.ensures.answer c.in_err-nothing_after.ensures)
+    (left_faults i c.args.end c.words.result w words.0 c.in_ok-after_header-4.ensures.answer c.in_err-nothing_after.field-0.0 c.in_err-nothing_after.ensures)
 
 pub program-requires : goal.program-requires
 program-requires c = subst AreAligned (sym (value_passed _ _ _ _ c.assemble.ensures c.in_ok-object.ensures).2) (labels_aligned (text_lines c.next_section-kernels.result.lines.now))
 
 pub returns-clause-answer : goal.returns-clause-answer
 returns-clause-answer c =
-    let m = at_map c.in_ok-after_first.ensures.answer c.in_ok-after_header.ensures.answer c.next_section-map.ensures.lines c.next_section-map.ensures.whole c.next_section-map.ensures.closed in
     let names = c.deref.ensures.value ∙ c.in_ok-labels.ensures ∙ ap names_of c.section_of.ensures.section in
-    let k = at_kernels (text_lines c.args.input.now) m names (value_passed _ _ _ _ c.parse.ensures c.in_ok-tasks.ensures).0 c.in_ok-after_header-2.ensures.answer c.next_section-kernels.ensures.lines c.next_section-kernels.ensures.whole c.next_section-kernels.ensures.closed in
-    let i = at_image k (value_passed _ _ _ _ c.assemble.ensures c.in_ok-object.ensures).0 c.in_ok-after_header-3.ensures.answer c.next_section-image.ensures.lines c.next_section-image.ensures.whole c.next_section-image.ensures.closed in
-    let w = c.words.ensures.value ∙ ap (λ (x : MapValue). x.words) (value_passed _ _ _ _ c.parse.ensures c.in_ok-tasks.ensures).1 in (
-      is_bundle (text_lines c.args.input.now) _ _ _ _ _ _ _ _ _ _ _ _ _ i c.args.end c.words.result _ w (value_passed _ _ _ _ c.read_image.ensures c.in_ok-words.ensures).0 c.in_ok-after_header-4.ensures.answer c.in_ok-nothing_after.ensures,
-      value_is (text_lines c.args.input.now) _ _ _ _ _ _ _ _ _ _ _ _ _ i c.words.result _ _ _ _ _ c.words.ensures.value (value_passed _ _ _ _ c.parse.ensures c.in_ok-tasks.ensures).1 (value_passed _ _ _ _ c.assemble.ensures c.in_ok-object.ensures).1 (value_passed _ _ _ _ c.assemble.ensures c.in_ok-object.ensures).2 c.in_ok-program.ensures (value_passed _ _ _ _ c.read_image.ensures c.in_ok-words.ensures).1,
+    let m = at_map (text_lines c.args.input.now) names c.in_ok-begun.ensures.answer c.in_ok-after_header.ensures.answer c.next_section-map.ensures.lines c.next_section-map.ensures.whole c.next_section-map.ensures.closed in
+    let tasks = value_passed _ _ _ _ c.parse.ensures c.in_ok-tasks.ensures in
+    let k = at_kernels m tasks.0 c.in_ok-after_header-2.ensures.answer c.next_section-kernels.ensures.lines c.next_section-kernels.ensures.whole c.next_section-kernels.ensures.closed in
+    let object = value_passed _ _ _ _ c.assemble.ensures c.in_ok-object.ensures in
+    let i = at_image k object.0 c.in_ok-after_header-3.ensures.answer c.next_section-image.ensures.lines c.next_section-image.ensures.whole c.next_section-image.ensures.closed in
+    let w = c.words.ensures.value ∙ ap (λ (x : MapValue). x.words) tasks.1 in
+    let words = value_passed _ _ _ _ c.read_image.ensures c.in_ok-words.ensures in (
+      is_bundle i c.args.end c.words.result w words.0 c.in_ok-after_header-4.ensures.answer c.in_ok-nothing_after.ensures,
+      value_is i c.words.result _ _ _ _ _ c.words.ensures.value tasks.1 object.1 object.2 c.in_ok-program.ensures words.1,
     )
 
 pub returns-clause-image : goal.returns-clause-image
 returns-clause-image c =
-    ap length (value_passed _ _ _ _ c.read_image.ensures c.in_ok-words.ensures).1 ∙ image_length c.words.result _ (value_passed _ _ _ _ c.read_image.ensures c.in_ok-words.ensures).0 ∙ c.words.ensures.value ∙ sym (ap (λ (p : ProgramValue). p.map.words) c.in_ok-program.ensures)
+    let words = value_passed _ _ _ _ c.read_image.ensures c.in_ok-words.ensures in
+    let n = ap length words.1 ∙ image_length c.words.result _ words.0 ∙ c.words.ensures.value in
+    n ∙ sym (ap (λ (p : ProgramValue). p.map.words) c.in_ok-program.ensures)
 
 pub returns-clause-whole : goal.returns-clause-whole
 returns-clause-whole c =
-    let n = ap length (value_passed _ _ _ _ c.read_image.ensures c.in_ok-words.ensures).1 ∙ image_length c.words.result _ (value_passed _ _ _ _ c.read_image.ensures c.in_ok-words.ensures).0 ∙ c.words.ensures.value in
+    let words = value_passed _ _ _ _ c.read_image.ensures c.in_ok-words.ensures in
+    let n = ap length words.1 ∙ image_length c.words.result _ words.0 ∙ c.words.ensures.value in
     ap (λ (n : ℕ). n % 8) n ∙ c.words.ensures.limits.words_whole
 
 pub returns-clause-small : goal.returns-clause-small
 returns-clause-small c =
-    let n = ap length (value_passed _ _ _ _ c.read_image.ensures c.in_ok-words.ensures).1 ∙ image_length c.words.result _ (value_passed _ _ _ _ c.read_image.ensures c.in_ok-words.ensures).0 ∙ c.words.ensures.value in
+    let words = value_passed _ _ _ _ c.read_image.ensures c.in_ok-words.ensures in
+    let n = ap length words.1 ∙ image_length c.words.result _ words.0 ∙ c.words.ensures.value in
     omega (arith, n, c.words.ensures.limits.words_high)

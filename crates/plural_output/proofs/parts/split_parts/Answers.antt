@@ -1,7 +1,7 @@
 use Rattle.std.proofs.Common.{ap, ◌∙◌}
 use Rattle.plural_bytes.specs.Spelled.{text_lines}
 use Rattle.plural_sections.proofs.Cuts.{cut_rest}
-use Rattle.plural_output.proofs.Parted.{bundle_is, output_is}
+use Rattle.plural_output.proofs.InputParts.{bundle_is, output_is}
 use Rattle.plural_output.proofs.parts.split_parts.Goals as goal
 
 pub returns-clause-bundle : goal.returns-clause-bundle

@@ -1,0 +1,192 @@
+-- A bundle that was read up to here, and what its next lines mean for the whole.
+use Rattle.std.proofs.Common.{◌≡◌, ℕ, List, [], ◌++◌, refl, ap, sym, subst, ◌∙◌}
+use Rattle.std.specs.Prelude.{codes}
+use Rattle.plural_base.proofs.ListTests.{none_before}
+use Rattle.plural_bytes.specs.Lines.{TextLine}
+use Rattle.plural_sections.specs.declared.line_error.LineError.{LineError}
+use Rattle.plural_sections.specs.Faults.{IsFaultless, closed}
+use Rattle.plural_sections.specs.Errors.{Tells, renamed}
+use Rattle.plural_sections.specs.Sections.{closes, up_to_header}
+use Rattle.plural_sections.specs.Borders.{head_of, IsClosed, IsHeaded, IsMissing, AllBlank, IsLeftOver}
+use Rattle.plural_sections.proofs.FirstFaults.{last_none}
+use Rattle.plural_sections.proofs.Closings.{NoneCloses}
+use Rattle.plural_sections.proofs.Stages.{Stage, stage_next, section_tells, section_missing, whole_section_tells, past_none, past_first}
+use Rattle.plural_map_text.specs.Rules as map
+use Rattle.plural_map_text.specs.Rules.{IsMapText}
+use Rattle.plural_map_text.specs.Parts.{map_of}
+use Rattle.plural_map_text.specs.declared.fault.MapKind.{MapKind}
+use Rattle.plural_map.specs.Value.{MapValue}
+use Rattle.plural_asm.specs.Rules as asm
+use Rattle.plural_asm.specs.Labels.{names_of}
+use Rattle.plural_asm.specs.Words.{code_of, labels_of}
+use Rattle.plural_asm.specs.declared.object.AsmKind.{AsmKind}
+use Rattle.plural_asm.specs.declared.object.Label.{Label}
+use Rattle.plural_image.specs.Image as image
+use Rattle.plural_image.specs.Image.{image_of}
+use Rattle.plural_image.specs.declared.fault.ImageKind.{ImageKind}
+use Rattle.plural_serial.specs.Program.{ProgramValue}
+use Rattle.plural_sections.specs.declared.fault.Fault.{Fault}
+use Rattle.plural_bundle.specs.Sections.{map_lines, kernel_lines, image_lines}
+use Rattle.plural_bundle.specs.FirstLine.{IsBegun}
+use Rattle.plural_map_text.specs.Kinds.{map_fault}
+use Rattle.plural_asm.specs.Kinds.{kernel_fault}
+use Rattle.plural_image.specs.Kinds.{image_fault}
+use Rattle.plural_bundle.specs.Answer.{IsBundle, Faults}
+use Rattle.plural_bundle.specs.Value.{program_with, program_of, bundle_of}
+use Rattle.plural_bundle.proofs.BundleRule.{only_form, bundle_rule, stage_map, map_part, kernel_part, image_part, past_sections}
+use Rattle.plural_bundle.proofs.BundleSections.{map_is, kernels_is, image_is}
+
+-- ---- how far the lines were read
+
+-- Up to the map's lines, and those from the next header on.
+pub record AtMap (input all r1 r2 lines back : List TextLine) (labels : List (List ℕ)) (version : ℕ) : Type 0 where
+  pub begun : IsBegun all r1 version
+  pub header : IsHeaded (codes "[map]") r1 r2
+  pub names : labels ≡ names_of (kernel_lines input)
+  pub own : lines ≡ up_to_header r2
+  pub whole : r2 ≡ lines ++ back
+  pub shut : IsClosed back
+
+-- And up to the kernels' lines.
+pub record AtKernels (input all r1 r2 maps back r4 lines after : List TextLine) (labels : List (List ℕ)) (version number : ℕ) : Type 0 where
+  pub at_map : AtMap input all r1 r2 maps back labels version
+  pub good : IsMapText version labels maps number
+  pub header : IsHeaded (codes "[kernels]") back r4
+  pub own : lines ≡ up_to_header r4
+  pub whole : r4 ≡ lines ++ after
+  pub shut : IsClosed after
+
+-- And up to the image's lines.
+pub record AtImage (input all r1 r2 maps back r4 kernels after r6 lines last : List TextLine) (labels : List (List ℕ)) (version number : ℕ) : Type 0 where
+  pub at_kernels : AtKernels input all r1 r2 maps back r4 kernels after labels version number
+  pub good : IsFaultless (asm.Breaks kernels) kernels
+  pub header : IsHeaded (codes "[image]") after r6
+  pub own : lines ≡ up_to_header r6
+  pub whole : r6 ≡ lines ++ last
+  pub shut : IsClosed last
+
+pub at_map : (input : List TextLine) {all r1 r2 lines back : List TextLine} {labels : List (List ℕ)} {version : ℕ} → labels ≡ names_of (kernel_lines input) → IsBegun all r1 version
+    → IsHeaded (codes "[map]") r1 r2 → lines ≡ up_to_header r2 → r2 ≡ lines ++ back → IsClosed back → AtMap input all r1 r2 lines back labels version
+at_map input n b h o w s = record { begun = b; header = h; names = n; own = o; whole = w; shut = s }
+
+pub at_kernels : {input all r1 r2 maps back r4 lines after : List TextLine} {labels : List (List ℕ)} {version number : ℕ} → AtMap input all r1 r2 maps back labels version → IsMapText version labels maps number
+    → IsHeaded (codes "[kernels]") back r4 → lines ≡ up_to_header r4 → r4 ≡ lines ++ after → IsClosed after → AtKernels input all r1 r2 maps back r4 lines after labels version number
+at_kernels a g h o w s = record { at_map = a; good = g; header = h; own = o; whole = w; shut = s }
+
+pub at_image : {input all r1 r2 maps back r4 kernels after r6 lines last : List TextLine} {labels : List (List ℕ)} {version number : ℕ} → AtKernels input all r1 r2 maps back r4 kernels after labels version number
+    → IsFaultless (asm.Breaks kernels) kernels → IsHeaded (codes "[image]") after r6 → lines ≡ up_to_header r6 → r6 ≡ lines ++ last → IsClosed last
+    → AtImage input all r1 r2 maps back r4 kernels after r6 lines last labels version number
+at_image a g h o w s = record { at_kernels = a; good = g; header = h; own = o; whole = w; shut = s }
+
+-- ---- the map's section
+
+module _ {input all r1 r2 maps back : List TextLine} {labels : List (List ℕ)} {version : ℕ} (a : AtMap input all r1 r2 maps back labels version) where
+  map_none : NoneCloses maps
+  map_none = subst NoneCloses (sym a.own) (none_before (λ l. closes l.1) r2)
+
+  map_own : map_lines all ≡ maps
+  map_own = map_is a.begun a.header ∙ sym a.own
+
+  map_good : (number : ℕ) → IsMapText version labels maps number
+      → IsFaultless (map.Breaks version (names_of (kernel_lines input)) (map_lines all)) maps × ((k : MapKind) → map.Breaks version (names_of (kernel_lines input)) (map_lines all) maps [] k → ⊥)
+  map_good number good =
+      last_none (map.Breaks version (names_of (kernel_lines input)) (map_lines all)) maps (number, [])
+      (subst (λ l. IsFaultless (map.Breaks version l (map_lines all)) (closed maps number)) a.names (subst (λ x. IsFaultless (map.Breaks version labels x) (closed maps number)) (sym map_own) good))
+
+  -- The map's first fault is that of the bundle.
+  pub map_faults : (end number : ℕ) (e : LineError MapKind) → number ≡ (head_of back end).0 → map.Faults version labels maps number e → Faults input all end (renamed map_fault e)
+  map_faults end number e at f =
+      whole_section_tells (stage_map input a.begun a.header) (map_part input a.begun a.header) (λ before text f. refl) (only_form version (names_of (kernel_lines input)) (map_lines all))
+      maps back end number map_none a.whole a.shut at e
+      (subst (λ l. Tells map.rank (map.Breaks version l (map_lines all)) (closed maps number) e) a.names (subst (λ x. Tells map.rank (map.Breaks version labels x) (closed maps number) e) (sym map_own) f))
+
+  -- What stands in the place of the header of the kernels is the first fault.
+  pub kernels_missing : (end number : ℕ) → IsMapText version labels maps number → (e : LineError Fault) → IsMissing (codes "[kernels]") back end e → Faults input all end e
+  kernels_missing end number good e m =
+      section_missing (stage_map input a.begun a.header) (map_part input a.begun a.header) maps back end map_none a.whole (map_good number good).0 a.shut e m
+
+-- ---- the kernels' section
+
+module _ {input all r1 r2 maps back r4 lines after : List TextLine} {labels : List (List ℕ)} {version number : ℕ} (a : AtKernels input all r1 r2 maps back r4 lines after labels version number) where
+  kernels_none : NoneCloses lines
+  kernels_none = subst NoneCloses (sym a.own) (none_before (λ l. closes l.1) r4)
+
+  kernels_own : kernel_lines all ≡ lines
+  kernels_own = kernels_is maps a.at_map.begun a.at_map.header a.at_map.whole (map_none a.at_map) a.header ∙ sym a.own
+
+  kernels_stage : Stage (bundle_rule input a.at_map.begun a.at_map.header) all 1 r4
+  kernels_stage =
+      let good = map_good a.at_map number a.good in
+      stage_next (stage_map input a.at_map.begun a.at_map.header) (map_part input a.at_map.begun a.at_map.header) maps back r4 (map_none a.at_map) a.at_map.whole good.0 good.1 a.header
+
+  kernels_good : IsFaultless (asm.Breaks lines) lines → IsFaultless (asm.Breaks (kernel_lines all)) lines
+  kernels_good f = subst (λ l. IsFaultless (asm.Breaks l) lines) (sym kernels_own) f
+
+  -- The kernels' first fault is that of the bundle.
+  pub kernels_faults : (end : ℕ) (e : LineError AsmKind) → Tells asm.rank (asm.Breaks lines) lines e → Faults input all end (renamed kernel_fault e)
+  kernels_faults end e f =
+      section_tells kernels_stage (kernel_part input a.at_map.begun a.at_map.header) lines after end kernels_none a.whole e
+      (subst (λ l. Tells asm.rank (asm.Breaks l) lines e) (sym kernels_own) f)
+
+  -- What stands in the place of the header of the image is the first fault.
+  pub image_missing : (end : ℕ) → IsFaultless (asm.Breaks lines) lines → (e : LineError Fault) → IsMissing (codes "[image]") after end e → Faults input all end e
+  image_missing end good e m =
+      section_missing kernels_stage (kernel_part input a.at_map.begun a.at_map.header) lines after end kernels_none a.whole (kernels_good good) a.shut e m
+
+-- ---- the image's section, and what follows it
+
+module _ {input all r1 r2 maps back r4 kernels after r6 lines last : List TextLine} {labels : List (List ℕ)} {version number : ℕ}
+    (a : AtImage input all r1 r2 maps back r4 kernels after r6 lines last labels version number) where
+  image_none : NoneCloses lines
+  image_none = subst NoneCloses (sym a.own) (none_before (λ l. closes l.1) r6)
+
+  image_own : image_lines all ≡ lines
+  image_own =
+      let k = a.at_kernels in
+      image_is maps k.at_map.begun k.at_map.header k.at_map.whole (map_none k.at_map) k.header kernels k.whole (kernels_none k) a.header ∙ sym a.own
+
+  image_stage : Stage (bundle_rule input a.at_kernels.at_map.begun a.at_kernels.at_map.header) all 2 r6
+  image_stage =
+      let k = a.at_kernels in
+      stage_next (kernels_stage k) (kernel_part input k.at_map.begun k.at_map.header) kernels after r6 (kernels_none k) k.whole (kernels_good k a.good) tt a.header
+
+  words_own : (w : ℕ) → w ≡ (map_of maps).words → w ≡ (map_of (map_lines all)).words
+  words_own w e = e ∙ ap (λ l. (map_of l).words) (sym (map_own a.at_kernels.at_map))
+
+  image_good : (w : ℕ) → w ≡ (map_of maps).words → IsFaultless (image.Breaks w) lines → IsFaultless (image.Breaks (map_of (map_lines all)).words) lines
+  image_good w h f = subst (λ x. IsFaultless (image.Breaks x) lines) (words_own w h) f
+
+  -- The image's first fault is that of the bundle.
+  pub image_faults : (end w : ℕ) → w ≡ (map_of maps).words → (e : LineError ImageKind) → Tells image.rank (image.Breaks w) lines e → Faults input all end (renamed image_fault e)
+  image_faults end w h e f =
+      section_tells image_stage (image_part input a.at_kernels.at_map.begun a.at_kernels.at_map.header) lines last end image_none a.whole e
+      (subst (λ x. Tells image.rank (image.Breaks x) lines e) (words_own w h) f)
+
+  -- What stands in the place of the header of the end is the first fault.
+  pub end_missing : (end w : ℕ) → w ≡ (map_of maps).words → IsFaultless (image.Breaks w) lines → (e : LineError Fault) → IsMissing (codes "[end]") last end e → Faults input all end e
+  end_missing end w h good e m =
+      section_missing image_stage (image_part input a.at_kernels.at_map.begun a.at_kernels.at_map.header) lines last end image_none a.whole (image_good w h good) a.shut e m
+
+  end_stage : (w : ℕ) {rest : List TextLine} → w ≡ (map_of maps).words → IsFaultless (image.Breaks w) lines → IsHeaded (codes "[end]") last rest
+      → Stage (bundle_rule input a.at_kernels.at_map.begun a.at_kernels.at_map.header) all 3 rest
+  end_stage w {rest} h good b =
+      stage_next image_stage (image_part input a.at_kernels.at_map.begun a.at_kernels.at_map.header) lines last rest image_none a.whole (image_good w h good) tt b
+
+  -- A line with a text after the end is the first fault.
+  pub left_faults : (end w : ℕ) {rest : List TextLine} → w ≡ (map_of maps).words → IsFaultless (image.Breaks w) lines → IsHeaded (codes "[end]") last rest
+      → (e : LineError Fault) → IsLeftOver rest e → Faults input all end e
+  left_faults end w h good b e l = past_first (end_stage w h good b) (past_sections input all version) end e l
+
+  -- The lines are a bundle.
+  pub is_bundle : (end w : ℕ) {rest : List TextLine} → w ≡ (map_of maps).words → IsFaultless (image.Breaks w) lines → IsHeaded (codes "[end]") last rest → AllBlank rest → IsBundle input all end
+  is_bundle end w h good b l = past_none (end_stage w h good b) (past_sections input all version) end l
+
+  -- The program and the image are those that the lines spell.
+  pub value_is : (w : ℕ) (m : MapValue) (code : List ℕ) (marks : List Label) (program : ProgramValue) (words : List ℕ) → w ≡ m.words → m ≡ map_of maps → code ≡ code_of kernels kernels → marks ≡ labels_of kernels
+      → program ≡ program_with m code marks → words ≡ image_of w lines → record { program = program; image = words } ≡ bundle_of all
+  value_is w m code marks program words wm ms cs ls ps ws =
+      let maps_same = ms ∙ ap map_of (sym (map_own a.at_kernels.at_map)) in
+      let own = sym (kernels_own a.at_kernels) in
+      let program_same : program ≡ program_of all = ps ∙ (λ i. program_with (maps_same i) ((cs ∙ ap (λ l. code_of l l) own) i) ((ls ∙ ap labels_of own) i)) in
+      let image_same : words ≡ image_of (map_of (map_lines all)).words (image_lines all) = ws ∙ (λ i. image_of ((wm ∙ ap (λ (x : MapValue). x.words) maps_same) i) (sym image_own i)) in
+      λ i. record { program = program_same i; image = image_same i }
