@@ -107,6 +107,7 @@ module _ (p : Parts) (g : AreGood p) where
 
 -- ---- parts make a bundle
 
+-- Parts without a fault, one after the other, are a bundle.
 pub parts_make_a_bundle : PartsMakeABundle
 parts_make_a_bundle p more end g =
     let headed : IsHeaded (codes "[end]") (from_end p []) [] = record { number = p.at_end; whole = refl } in
@@ -193,6 +194,7 @@ same_value lines more h =
     ap bundle_of h.whole ∙ value_of h.parts h.good h.rest
     ∙ sym (ap bundle_of (ap (λ x. x ++ more) h.whole ∙ then_more h.parts h.rest more) ∙ value_of h.parts h.good (h.rest ++ more))
 
+-- A bundle is such parts.
 pub a_bundle_has_parts : ABundleHasParts
 a_bundle_has_parts lines more end texts f =
     let h = bundle_parts lines more end f in

@@ -65,14 +65,17 @@ pub record AtImage (input all r1 r2 maps back r4 kernels after r6 lines last : L
   pub whole : r6 ≡ lines ++ last
   pub shut : IsClosed last
 
+-- After the first line and the header of the map, its lines stand in the map's section.
 pub at_map : (input : List TextLine) {all r1 r2 lines back : List TextLine} {labels : List (List ℕ)} {version : ℕ} → labels ≡ names_of (kernel_lines input) → IsBegun all r1 version
     → IsHeaded (codes "[map]") r1 r2 → lines ≡ up_to_header r2 → r2 ≡ lines ++ back → IsClosed back → AtMap input all r1 r2 lines back labels version
 at_map input n b h o w s = record { begun = b; header = h; names = n; own = o; whole = w; shut = s }
 
+-- After a map without a fault and the header of the kernels, the lines stand in their section.
 pub at_kernels : {input all r1 r2 maps back r4 lines after : List TextLine} {labels : List (List ℕ)} {version number : ℕ} → AtMap input all r1 r2 maps back labels version → IsMapText version labels maps number
     → IsHeaded (codes "[kernels]") back r4 → lines ≡ up_to_header r4 → r4 ≡ lines ++ after → IsClosed after → AtKernels input all r1 r2 maps back r4 lines after labels version number
 at_kernels a g h o w s = record { at_map = a; good = g; header = h; own = o; whole = w; shut = s }
 
+-- After kernels without a fault and the header of the image, the lines stand in its section.
 pub at_image : {input all r1 r2 maps back r4 kernels after r6 lines last : List TextLine} {labels : List (List ℕ)} {version number : ℕ} → AtKernels input all r1 r2 maps back r4 kernels after labels version number
     → IsFaultless (asm.Breaks kernels) kernels → IsHeaded (codes "[image]") after r6 → lines ≡ up_to_header r6 → r6 ≡ lines ++ last → IsClosed last
     → AtImage input all r1 r2 maps back r4 kernels after r6 lines last labels version number

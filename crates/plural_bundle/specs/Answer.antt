@@ -13,6 +13,6 @@ use Rattle.plural_sections.specs.declared.fault.Fault.{Fault}
 abbrev pub IsBundle : (input lines : List TextLine) (end : ℕ) → Type 0
 IsBundle input lines end = IsFaultless (Breaks input lines) (closed lines end)
 
--- An error with a line is the first fault of the lines and their end; want of memory says nothing of them.
+-- An error with a line is the first fault of the lines and their end; that memory ran out says nothing of them.
 abbrev pub Faults : (input lines : List TextLine) (end : ℕ) → LineError Fault → Type 0
 Faults input lines end error = Tells rank (Breaks input lines) (closed lines end) error

@@ -15,8 +15,8 @@ use Rattle.plural_bundle.specs.FirstLine.{first_line}
 use Rattle.plural_bundle.specs.Answer.{IsBundle}
 use Rattle.plural_bundle.specs.Value.{BundleValue, program_with, bundle_of}
 
--- The parts of a bundle: its first line and the version that it tells, the lines of its sections, and the numbers of its
--- headers' lines.
+-- The parts of a bundle: its first line and the version that it tells, the lines of its sections, and the numbers of
+-- its headers' lines.
 pub record Parts : Type 0 where
   pub first : TextLine
   pub version : ℕ
@@ -28,8 +28,8 @@ pub record Parts : Type 0 where
   pub image_part : List TextLine
   pub at_end : ℕ
 
--- The lines of the parts: the first line, `[map]`, the map lines, `[kernels]`, the kernel lines, `[image]`, the image lines,
--- `[end]`.
+-- The lines of the parts: the first line, `[map]`, the map lines, `[kernels]`, the kernel lines, `[image]`, the image
+-- lines, `[end]`.
 abbrev pub lines_of : Parts → List TextLine
 lines_of p =
     p.first
@@ -42,8 +42,8 @@ lines_of p =
 abbrev pub Stay : List TextLine → Type 0
 Stay lines = AllByRecursion (λ l. closes l.1 ≡ false) lines
 
--- The parts have no fault, each by its own rule: the map's with the names of the kernel lines, the image's with the map's
--- words.
+-- The parts have no fault, each by its own rule: the map's with the names of the kernel lines, the image's with the
+-- map's words.
 pub record AreGood (p : Parts) : Type 0 where
   pub first : first_line p.first.1 ≡ Ok p.version
   pub map_stays : Stay p.map_part
@@ -60,8 +60,8 @@ spelled_by p = record {
   image = image_of (map_of p.map_part).words p.image_part;
 }
 
--- The lines of parts without a fault are a bundle, whatever follows them in the input, of the program and the image that
--- the parts spell.
+-- The lines of parts without a fault are a bundle, whatever follows them in the input, of the program and the image
+-- that the parts spell.
 abbrev pub PartsMakeABundle : Type 0
 PartsMakeABundle =
     (p : Parts) (more : List TextLine) (end : ℕ) → AreGood p

@@ -27,17 +27,17 @@ KernelBreaks all = PartBreaks kernel_fault (codes "[image]") (kernels.Breaks all
 abbrev pub ImageBreaks : (words : ℕ) → LineRule Fault
 ImageBreaks words = PartBreaks image_fault (codes "[end]") (image.Breaks words)
 
--- A line of a bundle of this version, after so many sections that were closed, by the lines before it in its own: the map's
--- section is the first, the kernels' the second, the image's the third, and nothing follows. The names that map lines may
--- use are those of the kernel lines of the input that the bundle stands in.
+-- A line of a bundle of this version, after so many sections that were closed, by the lines before it in its own: the
+-- map's section is the first, the kernels' the second, the image's the third, and nothing follows. The names that map
+-- lines may use are those of the kernel lines of the input that the bundle stands in.
 abbrev pub SectionBreaks : (input all : List TextLine) → (version : ℕ) → ℕ → LineRule Fault
 SectionBreaks input all version zero = MapBreaks version (names_of (kernel_lines input)) (map_lines all)
 SectionBreaks input all version (suc zero) = KernelBreaks (kernel_lines all)
 SectionBreaks input all version (suc (suc zero)) = ImageBreaks (map_of (map_lines all)).words
 SectionBreaks input all version (suc (suc (suc n))) = λ before. PastBreaks
 
--- A line of a bundle of all these lines, after those before it: the first tells the version, the second is the header of the
--- map, and the others stand in a section.
+-- A line of a bundle of all these lines, after those before it: the first tells the version, the second is the header
+-- of the map, and the others stand in a section.
 abbrev pub Breaks : (input all : List TextLine) → LineRule Fault
 Breaks input all [] text fault = first_line text ≡ Err fault
 Breaks input all (first ∷ []) text fault = IsNot (codes "[map]") text fault

@@ -26,8 +26,12 @@ program_with m code labels = record { map = m; code = code; entries = map (λ t.
 
 -- The program that the lines of a bundle spell: the map of the map lines, the code and the labels of the kernel lines.
 abbrev pub program_of : List TextLine → ProgramValue
-program_of lines = program_with (map_of (map_lines lines)) (code_of (kernel_lines lines) (kernel_lines lines)) (labels_of (kernel_lines lines))
+program_of lines = program_with (map_of (map_lines lines)) (code_of (kernel_lines lines) (kernel_lines lines))
+    (labels_of (kernel_lines lines))
 
 -- The program that the lines of a bundle spell, with the image of its memory.
 abbrev pub bundle_of : List TextLine → BundleValue
-bundle_of lines = record { program = program_of lines; image = image_of (map_of (map_lines lines)).words (image_lines lines) }
+bundle_of lines = record {
+  program = program_of lines;
+  image = image_of (map_of (map_lines lines)).words (image_lines lines);
+}

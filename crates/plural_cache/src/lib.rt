@@ -4,7 +4,7 @@
 //! Promise: a load of a lawful word answers what the bus holds there, and the bus is read, eight
 //! words, exactly when the access misses by looking back over all accesses (`specs/Miss.antt`). A
 //! store is one write of the bus.
-//! Stands on `plural_base`. `plural_serial` and `plural_cores` run instances over it.
+//! Stands on `plural_base`. `plural_serial` runs instances over it.
 #![tactic(auto)]
 
 mod access;

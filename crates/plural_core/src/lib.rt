@@ -3,8 +3,7 @@
 //! Promise: `Hart::turn` is exactly one turn of the model (`specs/Turn.antt`): one instruction of
 //! RV32I 2.1 and M 2.0, tested against the nine traps in their order and against the instance's
 //! regions, over the words that the port holds. `run` is the whole life of an instance.
-//! Stands on `plural_isa` and `plural_regions`. `plural_serial` runs instances alone over a cache,
-//! `plural_cores` runs them among other cores' steps.
+//! Stands on `plural_isa` and `plural_regions`. `plural_serial` runs instances over a cache.
 #![tactic(auto)]
 
 mod arithmetic;

@@ -66,5 +66,6 @@ row_first n a ws rest =
 
 -- ---- the content of a line that begins with no blank
 
+-- A text without outer blanks and without a comment is its own content.
 pub content_is : (d : ℕ) (cs : List ℕ) → list_all is_inner (d ∷ cs) ≡ true → is_blank d ≡ false → EndsInToken (d ∷ cs) → content (d ∷ cs) ≡ d ∷ cs
 content_is d cs inner full ends = lined.content_is (d ∷ cs) (record { inner = inner; begins = record { first = d; rest = cs; whole = refl; full = full }; ends = ends })

@@ -44,9 +44,11 @@ pub record AtImage (tasks : List TaskValue) (all logs back more lines last : Lis
   pub whole : more ≡ lines ++ last
   pub shut : IsClosed last
 
+-- The lines before the first header stand in the log's section.
 pub at_log : {all lines back : List TextLine} → lines ≡ up_to_header all → all ≡ lines ++ back → IsClosed back → AtLog all lines back
 at_log o w s = record { own = o; whole = w; shut = s }
 
+-- After a log without a fault and the header of the image, the lines stand in its section.
 pub at_image : {tasks : List TaskValue} {all logs back more lines last : List TextLine} {number : ℕ} → AtLog all logs back → IsFaultless (log.Breaks tasks) (closed logs number)
     → IsHeaded (codes "[image]") back more → lines ≡ up_to_header more → more ≡ lines ++ last → IsClosed last → AtImage tasks all logs back more lines last number
 at_image a g h o w s = record { at_log = a; good = g; header = h; own = o; whole = w; shut = s }

@@ -9,8 +9,8 @@ use Rattle.plural_sections.specs.Errors.{Tells}
 use Rattle.plural_map.specs.Value.{TaskValue}
 use Rattle.plural_output.specs.Rules.{Breaks}
 
--- The lines are an output of a run of these tasks over so many words: none has a fault, nor has the end of the text, which
--- is seen as a line without text of number `end`.
+-- The lines are an output of a run of these tasks over so many words: none has a fault, nor has the end of the text,
+-- which is seen as a line without text of number `end`.
 abbrev pub IsOutput : List TaskValue → (words : ℕ) → List TextLine → (end : ℕ) → Type 0
 IsOutput tasks words lines end = IsFaultless (Breaks tasks words) (closed lines end)
 

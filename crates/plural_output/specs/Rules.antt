@@ -16,8 +16,8 @@ LogBreaks tasks = WholePartBreaks log_fault (codes "[image]") (log.Breaks tasks)
 abbrev pub ImageBreaks : (words : ℕ) → LineRule Fault
 ImageBreaks words = PartBreaks image_fault (codes "[end]") (image.Breaks words)
 
--- A line after so many sections that were closed, by the lines before it in its own: the log's section is the first, the
--- image's the second, and nothing follows.
+-- A line after so many sections that were closed, by the lines before it in its own: the log's section is the first,
+-- the image's the second, and nothing follows.
 abbrev pub SectionBreaks : List TaskValue → (words : ℕ) → ℕ → LineRule Fault
 SectionBreaks tasks words zero = LogBreaks tasks
 SectionBreaks tasks words (suc zero) = ImageBreaks words

@@ -12,8 +12,8 @@ pub record OutputValue : Type 0 where
   pub log : LogValue
   pub image : List ℕ
 
--- The output that lines spell, of a run of these tasks over so many words: the log lines stand before the first header, and
--- the image lines in the section of the header `[image]`.
+-- The output that lines spell, of a run of these tasks over so many words: the log lines stand before the first
+-- header, and the image lines in the section of the header `[image]`.
 abbrev pub output_of : List TaskValue → (words : ℕ) → List TextLine → OutputValue
 output_of tasks words lines =
     record { log = log_of tasks (up_to_header lines); image = image_of words (section (codes "[image]") lines) }

@@ -22,6 +22,7 @@ use Rattle.plural_sections.specs.declared.fault.Fault.TheVariants.{Form}
 pub cut_lines : (xs : List Line) (n : ℕ) → n ≡ position_or_len (λ (l : Line). closes l.text.now) xs → text_lines (take n xs) ≡ up_to_header (text_lines xs)
 cut_lines xs n e = sym (take-map text_line n xs) ∙ ap (λ m. take m (text_lines xs)) (e ∙ sym (position_map (λ l. closes l.1) text_line xs))
 
+-- What is left from the first line on that closes a section is closed.
 pub rest_closed : (ls : List TextLine) → IsClosed (drop (position_or_len (λ l. closes l.1) ls) ls)
 rest_closed [] = tt
 rest_closed (l ∷ ls) = by (closes l.1) refl (rest_closed ls)
@@ -50,6 +51,7 @@ section_from header xs n e =
 
 -- ---- what stands first
 
+-- No text is no header.
 pub empty_apart : (header : List ℕ) → 0 < length header → bytes_eq [] header ≡ false
 empty_apart [] l = absurd (omega arith)
 empty_apart (c ∷ cs) l = refl
