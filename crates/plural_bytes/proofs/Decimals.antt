@@ -1,12 +1,12 @@
 -- Decimal digits that are written are read again.
 use Rattle.std.proofs.Common.{◌≡◌, ℕ, ◌+◌, ◌/◌, ◌%◌, ◌^◌, ◌<◌, ◌≤◌, Bool, true, false, eqb, ltb, Some, List, [], ◌∷◌, ◌++◌, length, refl, ◌∙◌, arith}
-use Rattle.std.specs.Prelude.{decimal, nat_eq, nat_lt, ◌&&◌, codes, option_map}
+use Rattle.std.specs.Prelude.{decimal, nat_eq, nat_lt, ◌&&◌, codes}
 use Rattle.std.specs.List.{list_all, starts_with}
 use Rattle.std.specs.Char.{digit_value, is_digit}
 use Rattle.std.proofs.lemmas.Fmt.{decimal_by_steps, decimal_nonempty}
-use Rattle.std.proofs.lemmas.Bool.{agree_below_at, eqb-true, ltb-true, lt-ltb, le-leb, ne_eqb, and_from, and_parts, and_left, and_right}
+use Rattle.std.proofs.lemmas.Bool.{agree_below_at, eqb-true, ltb-true, lt-ltb, ne_eqb, and_from, and_parts, and_left, and_right}
 use Rattle.std.proofs.lemmas.List.Folds.{list_all-append}
-use Rattle.plural_bytes.specs.Numerals.{value_of, spelled, numeral, bounded}
+use Rattle.plural_bytes.specs.Numerals.{value_of, spelled, numeral}
 use Rattle.plural_bytes.proofs.DigitValues.{value_of_push}
 
 -- Each digit of a number passes what the ten digits pass.
@@ -68,15 +68,3 @@ spelled_back n small =
 -- The decimal digits of a number are the numeral of that number.
 pub numeral_back : (n : ℕ) → n < 2 ^ 64 → numeral (decimal n) ≡ Some n
 numeral_back n small = rw (no_prefix (decimal n) (numeric n small)) (spelled_back n small)
-
--- A number that isn't above the limit is within it.
-pub bounded_is : (limit n : ℕ) → n ≤ limit → bounded limit n ≡ Some n
-bounded_is limit n l = rw (le-leb n limit l) refl
-
--- A printed number is read as that number where it isn't above the limit.
-bounded_back : (limit n : ℕ) → n ≤ limit → n < 2 ^ 64 → option_map (bounded limit) (numeral (decimal n)) ≡ Some (Some n)
-bounded_back limit n l small = rw (numeral_back n small, bounded_is limit n l) refl
-
--- So is one below 2^32.
-pub counted_back : (n : ℕ) → n < 4294967296 → option_map (bounded 4294967295) (numeral (decimal n)) ≡ Some (Some n)
-counted_back n small = bounded_back 4294967295 n (omega arith) (omega arith)

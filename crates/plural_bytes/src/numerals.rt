@@ -1,6 +1,6 @@
 //! Numerals of any length.
 
-ghost use Rattle.std.specs.Prelude.{◌≡◌, ℕ, ◌+◌, ◌*◌, ◌<◌, ◌≤◌, ⊤, option_map, MatchOption};
+ghost use Rattle.std.specs.Prelude.{◌≡◌, ℕ, ◌+◌, ◌*◌, ◌≤◌};
 ghost use Rattle.plural_bytes.specs.Numerals.{bounded, spelled, numeral, within};
 
 /// Why a text is no number.
@@ -54,18 +54,5 @@ pub fn number(text: &[u8], limit: u64) -> Result<u64, NumberError>
     match text.strip_prefix(b"0x") {
         Some(rest) => digits(rest, 16, limit),
         None => digits(text, 10, limit),
-    }
-}
-
-/// The number that a numeral spells, with nothing inside where it is above `limit`; nothing where the
-/// text is no numeral.
-pub fn bounded_number(text: &[u8], limit: u32) -> Option<Option<u32>>
-    ensures value { result ≡ option_map (λ n. bounded limit n) (numeral text.now) }
-    ensures bound { MatchOption result ⊤ (λ o. MatchOption o ⊤ (λ n. n ≤ limit)) }
-{
-    match number(text, u64::from(limit)) {
-        Err(NumberError::Form) => None,
-        Err(NumberError::Range) => Some(None),
-        Ok(n) => Some(Some(n as u32)),
     }
 }

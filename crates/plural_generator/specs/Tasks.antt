@@ -1,6 +1,6 @@
 -- The map of the large filter bundle: a filter of 1,024 instances, its greatest outputs, the best of these, two
 -- branches by whether the best reaches a limit, and what is done after them. It doesn't depend on the seed.
-use Rattle.std.specs.Prelude.{ℕ, true, false, List, [], ◌∷◌, Some, codes}
+use Rattle.std.specs.Prelude.{ℕ, true, false, List, [], ◌∷◌, codes}
 use Rattle.plural_regions.specs.declared.region.Region.{Region}
 use Rattle.plural_regions.specs.declared.region.Mode.TheVariants.{Read, Write}
 use Rattle.plural_map.specs.declared.outcome.Dep.{Dep}
@@ -11,11 +11,11 @@ use Rattle.plural_map.specs.Value.{TaskValue, MapValue}
 
 -- The region of a line `read BASE STRIDE COUNT`.
 abbrev pub reads : (base stride count : ℕ) → Region
-reads base stride count = region_of Read (Some base) (Some stride) (Some count)
+reads base stride count = region_of Read base stride count
 
 -- The region of a line `write BASE STRIDE COUNT`.
 abbrev pub writes : (base stride count : ℕ) → Region
-writes base stride count = region_of Write (Some base) (Some stride) (Some count)
+writes base stride count = region_of Write base stride count
 
 -- The dependency on the task of this number, with this condition.
 abbrev pub after : ℕ → When → Dep

@@ -1,6 +1,6 @@
 -- A printed log is read again.
 use Rattle.std.proofs.Common.{◌≡◌, ℕ, zero, suc, ◌+◌, ◌-◌, ◌<◌, ◌≤◌, true, false, Some, None, List, [], ◌∷◌, ◌++◌, length, refl, ap, sym, subst, ◌∙◌, arith, append_assoc}
-use Rattle.std.specs.Prelude.{min, option_map, bytes_eq, codes, decimal, flat_map, IsTrue}
+use Rattle.std.specs.Prelude.{bytes_eq, codes, decimal, flat_map, IsTrue}
 use Rattle.std.specs.List.{All, list_all}
 use Rattle.std.proofs.lemmas.Bool.{le-leb, lt-leb, le-ltb}
 use Rattle.std.proofs.lemmas.List.{append-nil, length_push, length-append}
@@ -8,7 +8,7 @@ use Rattle.std.proofs.lemmas.List.Elements.{All-head, All-tail}
 use Rattle.plural_bytes.specs.Lines.{TextLine, pieces, content_from, content_lines}
 use Rattle.plural_base.specs.Names.{is_name, name_of}
 use Rattle.plural_bytes.specs.Hexadecimal.{hex_text}
-use Rattle.plural_bytes.proofs.Decimals.{numeral_back}
+use Rattle.plural_sections.proofs.Caps.{capped_back}
 use Rattle.plural_bytes.proofs.Tokens.{is_token, AreTokens, all_tokens, joined, tokens_joined, line_next, decimal_token, hex_token, name_back, name_token}
 use Rattle.plural_core.specs.declared.end.End.{End}
 use Rattle.plural_core.specs.declared.end.End.TheVariants as ended
@@ -26,16 +26,12 @@ use Rattle.plural_log.specs.declared.line.LogLine.{LogLine}
 use Rattle.plural_log.specs.declared.line.LogLine.TheVariants as line
 use Rattle.plural_trace.specs.Logs.{LogValue}
 use Rattle.plural_log.specs.Print.{task_text, task_texts, end_text, counts_text, times_text, entry_text, log_text}
-use Rattle.plural_log.specs.Shape.{capped, counts_of, times_of, shape, shape_of}
+use Rattle.plural_log.specs.Shape.{counts_of, times_of, shape, shape_of}
 use Rattle.plural_log.specs.Spelled.{end_value, entry_value, nothing, log_of}
 use Rattle.plural_log.specs.Faults.{is_large, is_no_end, least_kind}
 use Rattle.plural_trace.specs.Logs.{IsEnd, IsEntry, IsLog}
 use Rattle.plural_log.specs.Laws.{LogRoundTrip}
 use Rattle.plural_log.proofs.Reading.{Reads, reads_nothing, reads_push, none_of_four, closed_reads}
-
--- A printed number below 2^32 is read as itself.
-capped_back : (n : ℕ) → n < 4294967296 → capped (decimal n) ≡ Some n
-capped_back n small = ap (option_map (λ m. min m 4294967296)) (numeral_back n (omega arith)) ∙ ap Some (let e : min n 4294967296 ≡ n = omega arith in e)
 
 -- ---- one task line
 

@@ -1,9 +1,8 @@
 -- The shapes of log lines.
-use Rattle.std.specs.Prelude.{ℕ, min, ◌&&◌, List, [], ◌∷◌, Option, Some, None, option_map, option_and_then, codes, bytes_eq, if◌then◌else◌}
+use Rattle.std.specs.Prelude.{ℕ, ◌&&◌, List, [], ◌∷◌, Option, Some, None, option_map, option_and_then, codes, bytes_eq, if◌then◌else◌}
 use Rattle.plural_bytes.specs.Lines.{tokens}
 use Rattle.plural_base.specs.Names.{name_of}
-use Rattle.plural_sections.specs.Numbers.{word_token}
-use Rattle.plural_bytes.specs.Numerals.{numeral}
+use Rattle.plural_sections.specs.Numbers.{capped_numeral, word_token}
 use Rattle.plural_map.specs.declared.outcome.Outcome.{Outcome}
 use Rattle.plural_map.specs.declared.outcome.Outcome.TheVariants as outcome
 use Rattle.plural_log.specs.declared.line.EndShape.{EndShape}
@@ -13,15 +12,11 @@ use Rattle.plural_log.specs.declared.line.Times.{Times}
 use Rattle.plural_log.specs.declared.line.LogLine.{LogLine}
 use Rattle.plural_log.specs.declared.line.LogLine.TheVariants as line
 
--- The number of a numeral; one above 4,294,967,295 is read as 4,294,967,296. None if the token is no numeral.
-abbrev pub capped : List ℕ → Option ℕ
-capped t = option_map (λ n. min n 4294967296) (numeral t)
-
 -- log 1 cores N
 abbrev pub first_line : List (List ℕ) → Option LogLine
 first_line (v ∷ c ∷ n ∷ []) =
     if bytes_eq v (codes "1") && bytes_eq c (codes "cores")
-    then option_map (λ cores. line.First cores) (capped n)
+    then option_map (λ cores. line.First cores) (capped_numeral n)
     else None
 first_line ts = None
 
@@ -46,7 +41,7 @@ task_line [] = None
 
 -- A word and a number before tokens: the number, and the tokens after it.
 abbrev pub field : List ℕ → List (List ℕ) → Option (ℕ × List (List ℕ))
-field word (w ∷ n ∷ ts) = if bytes_eq w word then option_map (λ m. (m, ts)) (capped n) else None
+field word (w ∷ n ∷ ts) = if bytes_eq w word then option_map (λ m. (m, ts)) (capped_numeral n) else None
 field word ts = None
 
 -- The times where no token is left.
@@ -80,7 +75,7 @@ times_of ts =
 abbrev pub trap_of : List (List ℕ) → Option (EndShape × List (List ℕ))
 trap_of (x ∷ w ∷ p ∷ ts) =
     if bytes_eq w (codes "pc")
-    then option_and_then (λ cause. option_map (λ pc. (end.Trap cause pc, ts)) (word_token p)) (capped x)
+    then option_and_then (λ cause. option_map (λ pc. (end.Trap cause pc, ts)) (word_token p)) (capped_numeral x)
     else None
 trap_of ts = None
 
@@ -112,7 +107,7 @@ run_line (n ∷ k ∷ ts) =
     (times_of c.1))
     (counts_of e.1))
     (end_of ts))
-    (capped k))
+    (capped_numeral k))
     (name_of n)
 run_line ts = None
 

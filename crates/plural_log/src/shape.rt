@@ -2,23 +2,12 @@
 ghost use Rattle.std.specs.Prelude.{◌≡◌, ℕ, true, List, Some, None, MatchOption, codes, [], ◌∷◌};
 ghost use Rattle.plural_bytes.specs.Lines.{tokens};
 ghost use Rattle.plural_log.specs.Words.{is_one_word};
-ghost use Rattle.plural_log.specs.Shape.{capped, first_line, outcome_of, task_line, field, counts_of, times_of, trap_of, code_of, end_of, run_line, shape_of};
+ghost use Rattle.plural_log.specs.Shape.{first_line, outcome_of, task_line, field, counts_of, times_of, trap_of, code_of, end_of, run_line, shape_of};
 
 use crate::line::{Counts, EndShape, LogLine, Times};
-use plural_bytes::{Name, NumberError, is_word, next_token, number, trim_start};
+use plural_bytes::{Name, is_word, next_token, trim_start};
 use plural_map::Outcome;
-use plural_sections::word_of;
-
-/// The number of a numeral; one above 4,294,967,295 is read as 4,294,967,296. Nothing if the text is no numeral.
-fn capped(text: &[u8]) -> Option<u64>
-    ensures { result ≡ capped text.now }
-{
-    match number(text, 4_294_967_295) {
-        Err(NumberError::Form) => None,
-        Err(NumberError::Range) => Some(4_294_967_296),
-        Ok(n) => Some(n),
-    }
-}
+use plural_sections::{capped_numeral, word_of};
 
 fn first_line(text: &[u8]) -> Option<LogLine>
     ensures { result ≡ first_line (tokens text.now) }
@@ -32,7 +21,7 @@ fn first_line(text: &[u8]) -> Option<LogLine>
     if !(is_word(version, b"1") && is_word(word, b"cores")) {
         return None;
     }
-    let cores = capped(count)?;
+    let cores = capped_numeral(count)?;
     Some(LogLine::First { cores })
 }
 
@@ -108,7 +97,7 @@ fn field<'a>(text: &'a [u8], word: &[u8]) -> Option<(u64, &'a [u8])>
         (λ r. field word.now (tokens text.now) ≡ Some (r.0, tokens r.1.now)) }
 {
     let (count, rest) = next_token(after_word(text, word)?)?;
-    let count = capped(count)?;
+    let count = capped_numeral(count)?;
     Some((count, rest))
 }
 
@@ -155,7 +144,7 @@ fn trap_of(text: &[u8]) -> Option<(EndShape, &[u8])>
     if !is_word(word, b"pc") {
         return None;
     }
-    let cause = capped(cause)?;
+    let cause = capped_numeral(cause)?;
     let pc = word_of(pc)?;
     Some((EndShape::Trap { cause, pc }, rest))
 }
@@ -194,7 +183,7 @@ fn run_line(text: &[u8]) -> Option<LogLine>
     let (name, rest) = next_token(text)?;
     let (k, rest) = next_token(rest)?;
     let name = Name::of(name)?;
-    let k = capped(k)?;
+    let k = capped_numeral(k)?;
     let (end, rest) = end_of(rest)?;
     let (counts, rest) = counts_of(rest)?;
     let times = times_of(rest)?;

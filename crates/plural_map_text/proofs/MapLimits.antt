@@ -1,9 +1,9 @@
 -- Lines without a fault spell parts within the limits, and those of a whole section spell a map within them all.
 use Rattle.std.proofs.Common.{◌≡◌, ℕ, ◌+◌, ◌%◌, ◌<◌, ◌≤◌, true, false, Some, None, Option, List, [], length, map, sum, get_or, refl, ap, sym, subst, arith}
-use Rattle.std.specs.Prelude.{◌≢◌, ◌&&◌, ◌||◌, ◌==◌, not, ⊤, MatchOption, bytes_eq, nat_le, nat_lt, unwrap_or, is_none, option_map}
+use Rattle.std.specs.Prelude.{◌≢◌, ◌&&◌, ◌||◌, ◌==◌, not, ⊤, MatchOption, bytes_eq, nat_le, nat_lt, is_none, option_map}
 use Rattle.std.specs.List.{All, AllPairs}
 use Rattle.std.specs.Option.{option_map_or}
-use Rattle.std.proofs.lemmas.Bool.{eqb-true, leb-false, ltb-false, leb-true, both_ways, not-false, or_parts, and_parts}
+use Rattle.std.proofs.lemmas.Bool.{eqb-true, leb-false, ltb-false, both_ways, not-false, or_parts, and_parts}
 use Rattle.plural_regions.specs.declared.region.Region.{Region}
 use Rattle.plural_regions.specs.declared.region.Mode.{Mode}
 use Rattle.plural_regions.specs.Bounds.{AllInside}
@@ -20,17 +20,11 @@ use Rattle.plural_map_text.specs.RegionOf.{region_of}
 use Rattle.plural_map_text.specs.Parts.{Parts, tasks_of, with_line, nothing, whole, quota_of, is_dup}
 use Rattle.plural_map.specs.Lookup.{number_of, has_task}
 use Rattle.plural_map_text.specs.Rules.{has, has_dep, task_count, instance_count, is_out_of_place, is_out_of_range, is_misnamed, is_too_many}
-use Rattle.plural_sections.specs.Numbers.{is_between}
+use Rattle.plural_sections.specs.Numbers.{is_within}
+use Rattle.plural_sections.proofs.Caps.{within_bounds}
 use Rattle.plural_map_text.specs.Verdicts.{IsInsideAt}
 use Rattle.plural_map_text.proofs.TaskLimits.{IsDeclared, task_from_declared, dep_added, region_added, length_all, quotas_all, names_all, declared_all, new_name_all, number_below}
 use Rattle.plural_map.proofs.DeclarationOrder.{declared_order, among_range}
-
--- ---- numbers
-
--- A number that is there and between two lies between them, whatever stands for none.
-pub between : (low high : ℕ) (n : Option ℕ) (d : ℕ) → is_between low high n ≡ true → (low ≤ unwrap_or n d) × (unwrap_or n d ≤ high)
-between low high None d e = absurd cc
-between low high (Some n) d e = (leb-true low n (and_parts (nat_le low n) (nat_le n high) e).0, leb-true n high (and_parts (nat_le low n) (nat_le n high) e).1)
 
 -- ---- what is kept
 
@@ -79,15 +73,15 @@ kept_nothing = record {
 abbrev one : TaskValue → ℕ
 one t = 1
 
-kept_memory : (n : ℕ) (p : Parts) (w : Option ℕ) → IsKept n p → is_out_of_place n p (line.Memory w) ≡ false → is_out_of_range (line.Memory w) ≡ false → IsKept (n + 1) (with_line p (line.Memory w))
+kept_memory : (n : ℕ) (p : Parts) (w : ℕ) → IsKept n p → is_out_of_place n p (line.Memory w) ≡ false → is_out_of_range (line.Memory w) ≡ false → IsKept (n + 1) (with_line p (line.Memory w))
 kept_memory n p w k place range =
     let z : n ≡ 0 = eqb-true n 0 (not-false (n == 0) place) in
-    let t = not-false (is_between 8 65536 w && unwrap_or w 0 % 8 == 0) range in
-    let b = between 8 65536 w 0 (and_parts (is_between 8 65536 w) (unwrap_or w 0 % 8 == 0) t).0 in
+    let t = not-false (is_within 8 65536 w && w % 8 == 0) range in
+    let b = within_bounds 8 65536 w (and_parts (is_within 8 65536 w) (w % 8 == 0) t).0 in
     let none : p.earlier ≡ [] = k.no_earlier (omega arith) in
     let nil : length p.earlier ≡ 0 = ap length none in
     record {
-      words = λ h. record { low = b.0; high = b.1; even = eqb-true (unwrap_or w 0 % 8) 0 (and_parts (is_between 8 65536 w) (unwrap_or w 0 % 8 == 0) t).1 };
+      words = λ h. record { low = b.0; high = b.1; even = eqb-true (w % 8) 0 (and_parts (is_within 8 65536 w) (w % 8 == 0) t).1 };
       shape = λ h. absurd (omega arith);
       no_earlier = λ h. none;
       no_current = λ h. k.no_current (omega arith);
@@ -99,14 +93,14 @@ kept_memory n p w k place range =
       current = rw (k.no_current (omega arith)) tt;
     }
 
-kept_cache : (n : ℕ) (p : Parts) (s w : Option ℕ) → IsKept n p → is_out_of_place n p (line.Cache s w) ≡ false → is_out_of_range (line.Cache s w) ≡ false → IsKept (n + 1) (with_line p (line.Cache s w))
+kept_cache : (n : ℕ) (p : Parts) (s w : ℕ) → IsKept n p → is_out_of_place n p (line.Cache s w) ≡ false → is_out_of_range (line.Cache s w) ≡ false → IsKept (n + 1) (with_line p (line.Cache s w))
 kept_cache n p s w k place range =
     let z : n ≡ 1 = eqb-true n 1 (not-false (n == 1) place) in
-    let t = not-false (option_map_or is_set_count s false && is_between 1 4 w) range in
-    let b = between 1 4 w 0 (and_parts (option_map_or is_set_count s false) (is_between 1 4 w) t).1 in
+    let t = not-false (is_set_count s && is_within 1 4 w) range in
+    let b = within_bounds 1 4 w (and_parts (is_set_count s) (is_within 1 4 w) t).1 in
     record {
       words = λ h. k.words (omega arith);
-      shape = λ h. record { known = sets_there s (and_parts (option_map_or is_set_count s false) (is_between 1 4 w) t).0; low = b.0; high = b.1 };
+      shape = λ h. record { known = (and_parts (is_set_count s) (is_within 1 4 w) t).0; low = b.0; high = b.1 };
       no_earlier = λ h. absurd (omega arith);
       no_current = λ h. absurd (omega arith);
       few = k.few;
@@ -116,23 +110,19 @@ kept_cache n p s w k place range =
       earlier = k.earlier;
       current = k.current;
     }
-  where
-    sets_there : (s : Option ℕ) → option_map_or is_set_count s false ≡ true → is_set_count (unwrap_or s 0) ≡ true
-    sets_there None e = absurd cc
-    sets_there (Some s) e = e
 
 -- A regular task has one instance.
-regular_one : (k : TaskKind) → is_dup k ≡ false → unwrap_or (quota_of k) 0 ≡ 1
+regular_one : (k : TaskKind) → is_dup k ≡ false → quota_of k ≡ 1
 regular_one kind.Regular e = refl
 regular_one (kind.Dup q) e = absurd cc
 
-kept_task : (labels : List (List ℕ)) (n : ℕ) (p : Parts) (name : List ℕ) (tk : TaskKind) (entry : List ℕ) (budget : Option ℕ) → IsKept n p → is_out_of_place n p (line.Task name tk entry budget) ≡ false
+kept_task : (labels : List (List ℕ)) (n : ℕ) (p : Parts) (name : List ℕ) (tk : TaskKind) (entry : List ℕ) (budget : ℕ) → IsKept n p → is_out_of_place n p (line.Task name tk entry budget) ≡ false
     → is_out_of_range (line.Task name tk entry budget) ≡ false → is_misnamed labels p (line.Task name tk entry budget) ≡ false → is_too_many p (line.Task name tk entry budget) ≡ false → IsKept (n + 1) (with_line p (line.Task name tk entry budget))
 kept_task labels n p name tk entry budget k place range misnamed many =
     let low : 2 ≤ n = ltb-false n 2 place in
-    let t = not-false (is_between 1 16384 (quota_of tk) && is_between 1 100000000 budget) range in
-    let q = between 1 16384 (quota_of tk) 0 (and_parts (is_between 1 16384 (quota_of tk)) (is_between 1 100000000 budget) t).0 in
-    let b = between 1 100000000 budget 0 (and_parts (is_between 1 16384 (quota_of tk)) (is_between 1 100000000 budget) t).1 in
+    let t = not-false (is_within 1 16384 (quota_of tk) && is_within 1 100000000 budget) range in
+    let q = within_bounds 1 16384 (quota_of tk) (and_parts (is_within 1 16384 (quota_of tk)) (is_within 1 100000000 budget) t).0 in
+    let b = within_bounds 1 100000000 budget (and_parts (is_within 1 16384 (quota_of tk)) (is_within 1 100000000 budget) t).1 in
     let here = option_map_or (λ (t : TaskValue). bytes_eq t.name name) p.current false in
     let new = (or_parts (has_task p.earlier name || here) (not (has labels entry)) misnamed).0 in
     record {
@@ -140,8 +130,8 @@ kept_task labels n p name tk entry budget k place range misnamed many =
       shape = λ h. k.shape (omega arith);
       no_earlier = λ h. absurd (omega arith);
       no_current = λ h. absurd (omega arith);
-      few = omega (arith, length_all p.earlier p.current, leb-false 64 (task_count p) (or_parts (nat_le 64 (task_count p)) (nat_lt 65536 (instance_count p + unwrap_or (quota_of tk) 0)) many).0);
-      quotas = omega (arith, quotas_all p.earlier p.current, ltb-false 65536 (instance_count p + unwrap_or (quota_of tk) 0) (or_parts (nat_le 64 (task_count p)) (nat_lt 65536 (instance_count p + unwrap_or (quota_of tk) 0)) many).1);
+      few = omega (arith, length_all p.earlier p.current, leb-false 64 (task_count p) (or_parts (nat_le 64 (task_count p)) (nat_lt 65536 (instance_count p + quota_of tk)) many).0);
+      quotas = omega (arith, quotas_all p.earlier p.current, ltb-false 65536 (instance_count p + quota_of tk) (or_parts (nat_le 64 (task_count p)) (nat_lt 65536 (instance_count p + quota_of tk)) many).1);
       names = names_all p.earlier p.current k.names k.new_name;
       new_name = new_name_all name p.earlier p.current (or_parts (has_task p.earlier name) here new).0 (or_parts (has_task p.earlier name) here new).1;
       earlier = declared_all p.words p.earlier p.current k.earlier k.current;
@@ -201,7 +191,7 @@ kept_after labels n p name when k place misnamed many =
     more None d new room l = tt
     more (Some t) d new room l = dep_added p.words (length p.earlier) t (number_of name p.earlier) when d l new room
 
-kept_region : (n : ℕ) (p : Parts) (mode : Mode) (base stride count : Option ℕ) → IsKept n p → is_out_of_place n p (line.Region mode base stride count) ≡ false → is_too_many p (line.Region mode base stride count) ≡ false
+kept_region : (n : ℕ) (p : Parts) (mode : Mode) (base stride count : ℕ) → IsKept n p → is_out_of_place n p (line.Region mode base stride count) ≡ false → is_too_many p (line.Region mode base stride count) ≡ false
     → IsInsideAt p (line.Region mode base stride count) → IsKept (n + 1) (with_line p (line.Region mode base stride count))
 kept_region n p mode base stride count k place many inside =
     let low : 2 ≤ n = ltb-false n 2 (or_parts (nat_lt n 2) (is_none p.current) place).0 in

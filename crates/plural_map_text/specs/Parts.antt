@@ -1,5 +1,5 @@
 -- The map that map lines spell.
-use Rattle.std.specs.Prelude.{ℕ, Bool, true, false, List, [], ◌++◌, Option, Some, None, fold, unwrap_or, option_map}
+use Rattle.std.specs.Prelude.{ℕ, Bool, true, false, List, [], ◌++◌, Option, Some, None, fold, option_map}
 use Rattle.std.specs.Option.{option_map_or, option_to_list}
 use Rattle.plural_bytes.specs.Lines.{TextLine}
 use Rattle.plural_map_text.specs.declared.line.MapLine.{MapLine}
@@ -26,8 +26,8 @@ abbrev pub tasks_of : Parts → List TaskValue
 tasks_of p = p.earlier ++ option_to_list p.current
 
 -- The number of instances that a task line gives: one for a regular task.
-abbrev pub quota_of : TaskKind → Option ℕ
-quota_of kind.Regular = Some 1
+abbrev pub quota_of : TaskKind → ℕ
+quota_of kind.Regular = 1
 quota_of (kind.Dup quota) = quota
 
 -- The line is that of a duplicable task.
@@ -36,13 +36,13 @@ is_dup kind.Regular = false
 is_dup (kind.Dup quota) = true
 
 -- The task of a task line, before the lines that belong to it.
-abbrev pub task_of_line : (name : List ℕ) → TaskKind → (entry : List ℕ) → Option ℕ → TaskValue
+abbrev pub task_of_line : (name : List ℕ) → TaskKind → (entry : List ℕ) → ℕ → TaskValue
 task_of_line name kind entry budget = record {
   name = name;
   dup = is_dup kind;
-  quota = unwrap_or (quota_of kind) 0;
+  quota = quota_of kind;
   entry = entry;
-  budget = unwrap_or budget 0;
+  budget = budget;
   some = false;
   deps = [];
   regions = [];
@@ -50,8 +50,8 @@ task_of_line name kind entry budget = record {
 
 -- The parts after one more line. `after`, `read` and `write` belong to the current task.
 abbrev pub with_line : Parts → MapLine → Parts
-with_line p (line.Memory words) = record p { words = unwrap_or words 0 }
-with_line p (line.Cache sets ways) = record p { sets = unwrap_or sets 0; ways = unwrap_or ways 0 }
+with_line p (line.Memory words) = record p { words = words }
+with_line p (line.Cache sets ways) = record p { sets = sets; ways = ways }
 with_line p (line.Task name kind entry budget) =
     record p { earlier = tasks_of p; current = Some (task_of_line name kind entry budget) }
 with_line p (line.After name when) =

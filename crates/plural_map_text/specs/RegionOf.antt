@@ -1,5 +1,5 @@
 -- The region of numbers that a map line spells.
-use Rattle.std.specs.Prelude.{ℕ, ◌+◌, ◌-◌, ◌≤◌, Option, min, unwrap_or}
+use Rattle.std.specs.Prelude.{ℕ, ◌+◌, ◌-◌, ◌≤◌, min}
 use Rattle.std.proofs.Math.Nat.{min-le_right, le-add_right}
 use Rattle.std.proofs.Common.{arith}
 use Rattle.plural_regions.specs.declared.region.Region.{Region}
@@ -11,14 +11,14 @@ one_more_limit n = omega (arith, min-le_right n 1048575)
 
 -- The region of this mode, base, stride and count. A number that no region can have is brought to the nearest that one
 -- can; lines with such numbers have a fault.
-abbrev pub region_of : Mode → (base stride count : Option ℕ) → Region
+abbrev pub region_of : Mode → (base stride count : ℕ) → Region
 region_of mode base stride count = record {
   mode = mode;
-  base = min (unwrap_or base 0) 1048575;
-  stride = min (unwrap_or stride 0) 1048575;
-  count = 1 + min (unwrap_or count 1 - 1) 1048575;
-  base_limit = min-le_right (unwrap_or base 0) 1048575;
-  stride_limit = min-le_right (unwrap_or stride 0) 1048575;
-  nonempty = le-add_right 1 (min (unwrap_or count 1 - 1) 1048575);
-  count_limit = one_more_limit (unwrap_or count 1 - 1);
+  base = min base 1048575;
+  stride = min stride 1048575;
+  count = 1 + min (count - 1) 1048575;
+  base_limit = min-le_right base 1048575;
+  stride_limit = min-le_right stride 1048575;
+  nonempty = le-add_right 1 (min (count - 1) 1048575);
+  count_limit = one_more_limit (count - 1);
 }

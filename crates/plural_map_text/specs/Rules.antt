@@ -1,11 +1,11 @@
 -- The faults of map lines: which kinds a line has, by the version, all lines of the section and those before the line.
-use Rattle.std.specs.Prelude.{◌≡◌, ℕ, ◌+◌, ◌%◌, Bool, true, false, not, ◌||◌, ◌&&◌, List, [], ◌∷◌, ◌++◌, Option, MatchOption, length, map, sum, is_none, nat_le, nat_lt, bytes_eq, ◌==◌, unwrap_or, ⊤}
+use Rattle.std.specs.Prelude.{◌≡◌, ℕ, ◌+◌, ◌%◌, Bool, true, false, not, ◌||◌, ◌&&◌, List, [], ◌∷◌, MatchOption, length, map, sum, is_none, nat_le, nat_lt, bytes_eq, ◌==◌}
 use Rattle.std.specs.List.{list_any}
 use Rattle.std.specs.Option.{option_map_or}
 use Rattle.plural_bytes.specs.Lines.{TextLine}
 use Rattle.plural_sections.specs.Faults.{IsFaultless, closed}
 use Rattle.plural_sections.specs.Errors.{Tells}
-use Rattle.plural_sections.specs.Numbers.{is_between}
+use Rattle.plural_sections.specs.Numbers.{is_within}
 use Rattle.plural_regions.specs.Bounds.{IsLeastOutside}
 use Rattle.plural_map_text.specs.declared.line.MapLine.{MapLine}
 use Rattle.plural_map_text.specs.declared.line.MapLine.TheVariants as line
@@ -29,20 +29,20 @@ is_out_of_place n p (line.After name when) = nat_lt n 2 || is_none p.current
 is_out_of_place n p (line.Region mode base stride count) = nat_lt n 2 || is_none p.current
 
 -- The words of a memory: a multiple of 8 from 8 to 65,536.
-abbrev pub are_words : Option ℕ → Bool
-are_words words = is_between 8 65536 words && unwrap_or words 0 % 8 == 0
+abbrev pub are_words : ℕ → Bool
+are_words words = is_within 8 65536 words && words % 8 == 0
 
 -- The shape of a cache: sets that are a power of two from 1 to 64, and 1 to 4 ways.
-abbrev pub are_sets_and_ways : Option ℕ → Option ℕ → Bool
-are_sets_and_ways sets ways = option_map_or is_set_count sets false && is_between 1 4 ways
+abbrev pub are_sets_and_ways : ℕ → ℕ → Bool
+are_sets_and_ways sets ways = is_set_count sets && is_within 1 4 ways
 
 -- The numbers of a task: a quota from 1 to 16,384, and a budget from 1 to 100,000,000.
-abbrev pub are_quota_and_budget : Option ℕ → Option ℕ → Bool
-are_quota_and_budget quota budget = is_between 1 16384 quota && is_between 1 100000000 budget
+abbrev pub are_quota_and_budget : ℕ → ℕ → Bool
+are_quota_and_budget quota budget = is_within 1 16384 quota && is_within 1 100000000 budget
 
 -- The numbers of a region: base and stride of at most 65,535, and a count from 1 to 65,536.
-abbrev pub are_region : (base stride count : Option ℕ) → Bool
-are_region base stride count = is_between 0 65535 base && is_between 0 65535 stride && is_between 1 65536 count
+abbrev pub are_region : (base stride count : ℕ) → Bool
+are_region base stride count = is_within 0 65535 base && is_within 0 65535 stride && is_within 1 65536 count
 
 -- 2: a number is out of its range.
 abbrev pub is_out_of_range : MapLine → Bool
@@ -88,8 +88,8 @@ abbrev pub instance_count : Parts → ℕ
 instance_count p = sum (map (λ t. t.quota) p.earlier) + option_map_or (λ t. t.quota) p.current 0
 
 -- With so many instances more there are more than 65,536.
-abbrev pub exceeds_instances : Parts → Option ℕ → Bool
-exceeds_instances p quota = nat_lt 65536 (instance_count p + unwrap_or quota 0)
+abbrev pub exceeds_instances : Parts → ℕ → Bool
+exceeds_instances p quota = nat_lt 65536 (instance_count p + quota)
 
 -- 4: a 65th task, an instance above 65,536, a 17th dependency, a 9th region.
 abbrev pub is_too_many : Parts → MapLine → Bool

@@ -1,7 +1,7 @@
 -- The shapes of map lines.
 use Rattle.std.specs.Prelude.{ℕ, ◌&&◌, List, [], ◌∷◌, Option, Some, None, option_map, option_and_then, codes, bytes_eq, if◌then◌else◌}
 use Rattle.plural_bytes.specs.Lines.{tokens}
-use Rattle.plural_sections.specs.Numbers.{counted}
+use Rattle.plural_sections.specs.Numbers.{capped_numeral}
 use Rattle.plural_base.specs.Names.{name_of}
 use Rattle.plural_regions.specs.declared.region.Mode.{Mode}
 use Rattle.plural_regions.specs.declared.region.Mode.TheVariants.{Read, Write}
@@ -22,12 +22,13 @@ when_of t =
 
 -- memory W
 abbrev pub memory_line : List (List ℕ) → Option MapLine
-memory_line (w ∷ []) = option_map (λ words. line.Memory words) (counted w)
+memory_line (w ∷ []) = option_map (λ words. line.Memory words) (capped_numeral w)
 memory_line ts = None
 
 -- cache SETS WAYS
 abbrev pub cache_line : List (List ℕ) → Option MapLine
-cache_line (s ∷ w ∷ []) = option_and_then (λ sets. option_map (λ ways. line.Cache sets ways) (counted w)) (counted s)
+cache_line (s ∷ w ∷ []) =
+    option_and_then (λ sets. option_map (λ ways. line.Cache sets ways) (capped_numeral w)) (capped_numeral s)
 cache_line ts = None
 
 -- entry LABEL budget B, of the task of this name and kind
@@ -35,13 +36,13 @@ abbrev pub task_end : List ℕ → TaskKind → List (List ℕ) → Option MapLi
 task_end n k (e ∷ l ∷ b ∷ v ∷ []) =
     if bytes_eq e (codes "entry") && bytes_eq b (codes "budget")
     then option_and_then (λ name. option_and_then (λ entry. option_map (λ budget. line.Task name k entry budget)
-    (counted v)) (name_of l)) (name_of n)
+    (capped_numeral v)) (name_of l)) (name_of n)
     else None
 task_end n k ts = None
 
 -- Q entry LABEL budget B
 abbrev pub dup_task : List ℕ → List (List ℕ) → Option MapLine
-dup_task n (q ∷ ts) = option_and_then (λ quota. task_end n (kind.Dup quota) ts) (counted q)
+dup_task n (q ∷ ts) = option_and_then (λ quota. task_end n (kind.Dup quota) ts) (capped_numeral q)
 dup_task n [] = None
 
 -- task NAME regular entry LABEL budget B, task NAME dup Q entry LABEL budget B
@@ -61,7 +62,7 @@ after_line ts = None
 abbrev pub region_line : Mode → List (List ℕ) → Option MapLine
 region_line mode (b ∷ s ∷ c ∷ []) =
     option_and_then (λ base. option_and_then (λ stride. option_map (λ count. line.Region mode base stride count)
-    (counted c)) (counted s)) (counted b)
+    (capped_numeral c)) (capped_numeral s)) (capped_numeral b)
 region_line mode ts = None
 
 -- The shape of a line by its first token.

@@ -9,7 +9,7 @@ ghost use Rattle.plural_map_text.specs.Parts.{quota_of, is_dup, with_line, with_
 ghost use Rattle.plural_map.specs.Lookup.{number_of, has_task};
 ghost use Rattle.plural_map.specs.Value.{with_dep, with_region};
 ghost use Rattle.plural_map_text.specs.Rules.{has, has_dep, names_current, current_has_dep, is_out_of_place, is_out_of_range, is_misnamed, is_too_many, IsOutsideAt, task_count, instance_count};
-ghost use Rattle.plural_sections.specs.Numbers.{is_between};
+ghost use Rattle.plural_sections.specs.Numbers.{is_within};
 ghost use Rattle.plural_map_text.specs.Verdicts.{IsInsideAt, IsVerdict};
 ghost use Rattle.plural_map_text.specs.Drafts.{draft_parts};
 
@@ -19,7 +19,7 @@ use arrayvec::ArrayVec;
 use plural_bytes::Name;
 use plural_map::{Dep, Task, TaskParts, has_task, number_of};
 use plural_regions::{Mode, Region};
-use plural_sections::is_between;
+use plural_sections::is_within;
 use std::alloc::AllocFailed;
 
 /// The parts of a map that the lines so far spell.
@@ -47,11 +47,11 @@ fn quota_sum(tasks: &[Task]) -> u64
     tasks.iter().map(|t| u64::from(t.quota())).sum()
 }
 
-fn quota_of(kind: TaskKind) -> Option<u32>
+fn quota_of(kind: TaskKind) -> u64
     ensures { result ≡ quota_of kind }
 {
     match kind {
-        TaskKind::Regular => Some(1),
+        TaskKind::Regular => 1,
         TaskKind::Dup { quota } => quota,
     }
 }
@@ -62,7 +62,7 @@ fn is_dup(kind: TaskKind) -> bool
     matches!(kind, TaskKind::Dup { .. })
 }
 
-fn is_set_count(sets: u32) -> bool
+fn is_set_count(sets: u64) -> bool
     ensures { result ≡ is_set_count sets }
 {
     matches!(sets, 1 | 2 | 4 | 8 | 16 | 32 | 64)
@@ -83,14 +83,10 @@ fn is_out_of_range(line: &MapLine) -> bool
     ensures { result ≡ is_out_of_range line.now }
 {
     match *line {
-        MapLine::Memory { words } => {
-            !(is_between(8, 65_536, words) && words.unwrap_or(0) % 8 == 0)
-        }
-        MapLine::Cache { sets, ways } => {
-            !(is_set_count(sets.unwrap_or(0)) && is_between(1, 4, ways))
-        }
+        MapLine::Memory { words } => { !(is_within(8, 65_536, words) && words % 8 == 0) }
+        MapLine::Cache { sets, ways } => { !(is_set_count(sets) && is_within(1, 4, ways)) }
         MapLine::Task { kind, budget, .. } => {
-            !(is_between(1, 16_384, quota_of(kind)) && is_between(1, 100_000_000, budget))
+            !(is_within(1, 16_384, quota_of(kind)) && is_within(1, 100_000_000, budget))
         }
         MapLine::Region {
             base,
@@ -98,9 +94,9 @@ fn is_out_of_range(line: &MapLine) -> bool
             count,
             ..
         } => {
-            !(is_between(0, 65_535, base)
-                && is_between(0, 65_535, stride)
-                && is_between(1, 65_536, count))
+            !(is_within(0, 65_535, base)
+                && is_within(0, 65_535, stride)
+                && is_within(1, 65_536, count))
         }
         MapLine::After { .. } => false,
     }
@@ -192,8 +188,7 @@ fn is_too_many(draft: &Draft, line: &MapLine) -> bool
 {
     match *line {
         MapLine::Task { kind, .. } => {
-            task_count(draft) >= 64
-                || instance_count(draft) + u64::from(quota_of(kind).unwrap_or(0)) > 65_536
+            task_count(draft) >= 64 || quota_of(kind) > 65_536 - instance_count(draft)
         }
         MapLine::After { .. } => has_all_deps(draft),
         MapLine::Region { .. } => has_all_regions(draft),
@@ -201,17 +196,17 @@ fn is_too_many(draft: &Draft, line: &MapLine) -> bool
     }
 }
 
-fn region_of(mode: Mode, base: Option<u32>, stride: Option<u32>, count: Option<u32>) -> Region
-    requires base { is_between 0 65535 base ≡ true }
-    requires stride { is_between 0 65535 stride ≡ true }
-    requires count { is_between 1 65536 count ≡ true }
+fn region_of(mode: Mode, base: u64, stride: u64, count: u64) -> Region
+    requires base { is_within 0 65535 base ≡ true }
+    requires stride { is_within 0 65535 stride ≡ true }
+    requires count { is_within 1 65536 count ≡ true }
     ensures { result ≡ region_of mode base stride count }
 {
     Region {
         mode,
-        base: base.unwrap_or(0),
-        stride: stride.unwrap_or(0),
-        count: count.unwrap_or(1),
+        base: base as u32,
+        stride: stride as u32,
+        count: count as u32,
     }
 }
 
@@ -314,12 +309,12 @@ fn add_line(draft: &mut Draft, line: &MapLine) -> Result<(), AllocFailed<Task>>
 {
     match *line {
         MapLine::Memory { words } => {
-            draft.words = words.unwrap_or(0);
+            draft.words = words as u32;
             Ok(())
         }
         MapLine::Cache { sets, ways } => {
-            draft.sets = sets.unwrap_or(0);
-            draft.ways = ways.unwrap_or(0);
+            draft.sets = sets as u32;
+            draft.ways = ways as u32;
             Ok(())
         }
         MapLine::Task {
@@ -331,9 +326,9 @@ fn add_line(draft: &mut Draft, line: &MapLine) -> Result<(), AllocFailed<Task>>
             let task = Task::of(TaskParts {
                 name,
                 dup: is_dup(kind),
-                quota: quota_of(kind).unwrap_or(0),
+                quota: quota_of(kind) as u32,
                 entry,
-                budget: budget.unwrap_or(0),
+                budget: budget as u32,
                 some: false,
                 deps: ArrayVec::new(),
                 regions: ArrayVec::new(),

@@ -8,27 +8,27 @@ pub enum TaskKind {
     /// `regular`: one instance.
     Regular,
     /// `dup Q`: Q instances.
-    Dup { quota: Option<u32> },
+    Dup { quota: u64 },
 }
 
-/// A map line by its shape. A number is `None` if it is above 4,294,967,295.
+/// A map line by its shape. A number above 4,294,967,295 is read as 4,294,967,296, which is out of every range.
 #[derive(Clone, Copy, Debug)]
 pub enum MapLine {
     /// `memory W`
     Memory {
-        words: Option<u32>,
+        words: u64,
     },
     /// `cache SETS WAYS`
     Cache {
-        sets: Option<u32>,
-        ways: Option<u32>,
+        sets: u64,
+        ways: u64,
     },
     /// `task NAME regular entry LABEL budget B` and `task NAME dup Q entry LABEL budget B`
     Task {
         name: Name,
         kind: TaskKind,
         entry: Name,
-        budget: Option<u32>,
+        budget: u64,
     },
     /// `after NAME any`, `after NAME 0` and `after NAME 1`
     After {
@@ -38,8 +38,8 @@ pub enum MapLine {
     /// `read BASE STRIDE COUNT` and `write BASE STRIDE COUNT`
     Region {
         mode: Mode,
-        base: Option<u32>,
-        stride: Option<u32>,
-        count: Option<u32>,
+        base: u64,
+        stride: u64,
+        count: u64,
     },
 }

@@ -7,7 +7,7 @@ use crate::line::{MapLine, TaskKind};
 use plural_bytes::{Name, is_word, next_token};
 use plural_map::When;
 use plural_regions::Mode;
-use plural_sections::counted;
+use plural_sections::capped_numeral;
 
 fn when_of(text: &[u8]) -> Option<When>
     ensures { result ≡ when_of text.now }
@@ -30,7 +30,7 @@ fn memory_line(text: &[u8]) -> Option<MapLine>
     if next_token(rest).is_some() {
         return None;
     }
-    let words = counted(words)?;
+    let words = capped_numeral(words)?;
     Some(MapLine::Memory { words })
 }
 
@@ -42,8 +42,8 @@ fn cache_line(text: &[u8]) -> Option<MapLine>
     if next_token(rest).is_some() {
         return None;
     }
-    let sets = counted(sets)?;
-    let ways = counted(ways)?;
+    let sets = capped_numeral(sets)?;
+    let ways = capped_numeral(ways)?;
     Some(MapLine::Cache { sets, ways })
 }
 
@@ -69,9 +69,9 @@ fn region_line(mode: Mode, text: &[u8]) -> Option<MapLine>
     if next_token(rest).is_some() {
         return None;
     }
-    let base = counted(base)?;
-    let stride = counted(stride)?;
-    let count = counted(count)?;
+    let base = capped_numeral(base)?;
+    let stride = capped_numeral(stride)?;
+    let count = capped_numeral(count)?;
     Some(MapLine::Region {
         mode,
         base,
@@ -95,7 +95,7 @@ fn task_end(name: &[u8], kind: TaskKind, text: &[u8]) -> Option<MapLine>
     }
     let name = Name::of(name)?;
     let entry = Name::of(label)?;
-    let budget = counted(count)?;
+    let budget = capped_numeral(count)?;
     Some(MapLine::Task {
         name,
         kind,
@@ -108,7 +108,7 @@ fn dup_task(name: &[u8], text: &[u8]) -> Option<MapLine>
     ensures { result ≡ dup_task name.now (tokens text.now) }
 {
     let (quota, rest) = next_token(text)?;
-    let quota = counted(quota)?;
+    let quota = capped_numeral(quota)?;
     task_end(name, TaskKind::Dup { quota }, rest)
 }
 

@@ -25,11 +25,12 @@ use Rattle.plural_map_text.specs.Shape.{shape_of}
 use Rattle.plural_map_text.specs.Parts.{Parts, with_line, with_text, nothing, parts_of, whole}
 use Rattle.plural_map.specs.Lookup.{number_of}
 use Rattle.plural_map_text.specs.Rules.{Breaks, HasKind, ClosesEarly, IsOutsideAt, is_out_of_place, is_out_of_range, is_misnamed, is_too_many, has}
-use Rattle.plural_sections.specs.Numbers.{is_between}
+use Rattle.plural_sections.specs.Numbers.{is_within}
 use Rattle.plural_map_text.specs.Verdicts.{IsInsideAt}
+use Rattle.plural_sections.proofs.Caps.{within_bounds}
 use Rattle.plural_sections.proofs.FirstFaults.{last_none}
 use Rattle.plural_map_text.proofs.TaskLimits.{length_all, declared_all}
-use Rattle.plural_map_text.proofs.MapLimits.{IsKept, between, kept_nothing, kept_blank, kept_more, kept_map}
+use Rattle.plural_map_text.proofs.MapLimits.{IsKept, kept_nothing, kept_blank, kept_more, kept_map}
 use Rattle.plural_reread.specs.Laws.{IsSpelledRegion, IsVersion1, MapFits}
 use Rattle.plural_reread.proofs.ShapeNames.{HasNames, line_named}
 
@@ -59,13 +60,13 @@ inside_from p (line.Region mode base stride count) none = by_task p.current none
     by_task None none = tt
     by_task (Some t) none = none_up_to (region_of mode base stride count) t.quota p.words t.quota none (omega arith)
 
-region_spelled : (mode : Mode) (base stride count : Option ℕ) → is_out_of_range (line.Region mode base stride count) ≡ false → IsSpelledRegion (region_of mode base stride count)
+region_spelled : (mode : Mode) (base stride count : ℕ) → is_out_of_range (line.Region mode base stride count) ≡ false → IsSpelledRegion (region_of mode base stride count)
 region_spelled mode base stride count e =
-    let p = and_parts (is_between 0 65535 base && is_between 0 65535 stride) (is_between 1 65536 count) (not-false _ e) in
-    let q = and_parts (is_between 0 65535 base) (is_between 0 65535 stride) p.0 in
-    let b = (between 0 65535 base 0 q.0).1 in
-    let s = (between 0 65535 stride 0 q.1).1 in
-    let c = (between 1 65536 count 1 p.1).1 in
+    let p = and_parts (is_within 0 65535 base && is_within 0 65535 stride) (is_within 1 65536 count) (not-false _ e) in
+    let q = and_parts (is_within 0 65535 base) (is_within 0 65535 stride) p.0 in
+    let b = (within_bounds 0 65535 base q.0).1 in
+    let s = (within_bounds 0 65535 stride q.1).1 in
+    let c = (within_bounds 1 65536 count p.1).1 in
     record { base = omega arith; stride = omega arith; count = omega arith }
 
 -- ---- tasks

@@ -86,10 +86,10 @@ same_region r s m b d c = λ i. record {
 }
 
 -- The numbers of a region spell it.
-pub region_back : (r : Region) → region_of r.mode (Some r.base) (Some r.stride) (Some r.count) ≡ r
+pub region_back : (r : Region) → region_of r.mode r.base r.stride r.count ≡ r
 region_back r =
     let b = r.base_limit in
     let s = r.stride_limit in
     let l = r.nonempty in
     let h = r.count_limit in
-    same_region (region_of r.mode (Some r.base) (Some r.stride) (Some r.count)) r refl (omega arith) (omega arith) (omega arith)
+    same_region (region_of r.mode r.base r.stride r.count) r refl (omega arith) (omega arith) (omega arith)

@@ -1,6 +1,6 @@
 -- A printed map is read again.
 use Rattle.std.proofs.Common.{◌≡◌, ℕ, ◌+◌, ◌%◌, ◌<◌, ◌≤◌, ◌≢◌, true, false, Some, None, Option, List, [], ◌∷◌, ◌++◌, length, map, sum, get_or, refl, ap, sym, subst, ◌∙◌, arith, append_assoc}
-use Rattle.std.specs.Prelude.{codes, decimal, flat_map, IsTrue, unwrap_or}
+use Rattle.std.specs.Prelude.{codes, decimal, flat_map, IsTrue}
 use Rattle.std.specs.List.{All, AllPairs, list_all}
 use Rattle.std.specs.Option.{option_to_list}
 use Rattle.std.proofs.lemmas.Bool.{le-leb, lt-leb, le-ltb}
@@ -78,7 +78,7 @@ next_is m labels pre t ts limits small entries e =
 -- ---- its own line
 
 task_fine : (m : MapValue) (labels : List (List ℕ)) (earlier : List TaskValue) (current : Option TaskValue) (t : TaskValue) (n : ℕ) → IsNext m labels (earlier ++ option_to_list current) t → 2 ≤ n
-    → Passes labels n (after_tasks m earlier current) (line.Task t.name (kind_of t.dup t.quota) t.entry (Some t.budget))
+    → Passes labels n (after_tasks m earlier current) (line.Task t.name (kind_of t.dup t.quota) t.entry t.budget)
 task_fine m labels earlier current t n h low =
     let quota = quota_back t.dup t.quota h.task.regular in
     let a = h.task.quota_low in
@@ -97,9 +97,9 @@ task_fine m labels earlier current t n h low =
 
 -- The parts after the line of a task.
 opened : (m : MapValue) (earlier : List TaskValue) (current : Option TaskValue) (t : TaskValue) → (t.dup ≡ false → t.quota ≡ 1) → t.some ≡ false
-    → with_line (after_tasks m earlier current) (line.Task t.name (kind_of t.dup t.quota) t.entry (Some t.budget)) ≡ during m (earlier ++ option_to_list current) t [] []
+    → with_line (after_tasks m earlier current) (line.Task t.name (kind_of t.dup t.quota) t.entry t.budget) ≡ during m (earlier ++ option_to_list current) t [] []
 opened m earlier current t regular every =
-    let quota : unwrap_or (quota_of (kind_of t.dup t.quota)) 0 ≡ t.quota = ap (λ o. unwrap_or o 0) (quota_back t.dup t.quota regular) in
+    let quota : quota_of (kind_of t.dup t.quota) ≡ t.quota = quota_back t.dup t.quota regular in
     λ i. record {
       words = m.words;
       sets = m.sets;
@@ -115,7 +115,7 @@ task_step m labels earlier current t h =
     let b = h.task.budget_high in
     let name = h.spelled.name in
     let entry = h.spelled.entry in
-    let step = line_step labels (after_tasks m earlier current) (line.Task t.name (kind_of t.dup t.quota) t.entry (Some t.budget)) (task_line t) (codes "task") (task_tokens t.dup t.quota t.name t.entry t.budget) (task_joined t)
+    let step = line_step labels (after_tasks m earlier current) (line.Task t.name (kind_of t.dup t.quota) t.entry t.budget) (task_line t) (codes "task") (task_tokens t.dup t.quota t.name t.entry t.budget) (task_joined t)
     (task_all t.dup t.quota t.name t.entry t.budget (omega arith) name entry (omega arith)) (task_shape t.dup t.quota t.name t.entry t.budget (omega arith) name entry (omega arith))
     (λ n low. task_fine m labels earlier current t n h low) in
     subst (λ (q : Parts). Leads labels (after_tasks m earlier current) (task_line t) q) (opened m earlier current t h.task.regular h.spelled.every) step
@@ -164,7 +164,7 @@ region_step m labels pre t done r rs h e =
     let inside : AllInside r t.quota m.words =
     (λ k l a i. h.task.inside k a l (list_any_at (λ (x : Region). is_in x k a) t.regions (length done) r low (rw here (is_in_when r k a i)))) in
     let back = region_back r in
-    let step = line_step labels (during m pre t t.deps done) (line.Region r.mode (Some r.base) (Some r.stride) (Some r.count)) (region_text r) (mode_text r.mode) (decimal r.base ∷ decimal r.stride ∷ decimal r.count ∷ [])
+    let step = line_step labels (during m pre t t.deps done) (line.Region r.mode r.base r.stride r.count) (region_text r) (mode_text r.mode) (decimal r.base ∷ decimal r.stride ∷ decimal r.count ∷ [])
     (line_joined (mode_text r.mode) (decimal r.base ∷ decimal r.stride ∷ decimal r.count ∷ [])) (region_all r.mode r.base r.stride r.count (omega arith) (omega arith) (omega arith))
     (region_shape r.mode r.base r.stride r.count (omega arith) (omega arith) (omega arith))
     (λ n low. record {
@@ -225,10 +225,10 @@ tasks_steps m labels earlier current (t ∷ ts) limits small entries e =
 
 -- ---- the first two lines, and the whole map
 
-first_fine : (labels : List (List ℕ)) (words : ℕ) → 8 ≤ words → words ≤ 65536 → words % 8 ≡ 0 → Passes labels 0 nothing (line.Memory (Some words))
+first_fine : (labels : List (List ℕ)) (words : ℕ) → 8 ≤ words → words ≤ 65536 → words % 8 ≡ 0 → Passes labels 0 nothing (line.Memory words)
 first_fine labels words low high even = record { place = refl; range = rw (le-leb 8 words low, le-leb words 65536 high, even) refl; names = refl; counts = refl; inside = tt }
 
-second_fine : (m : MapValue) (labels : List (List ℕ)) (p : Parts) → IsMap m → Passes labels 1 p (line.Cache (Some m.sets) (Some m.ways))
+second_fine : (m : MapValue) (labels : List (List ℕ)) (p : Parts) → IsMap m → Passes labels 1 p (line.Cache m.sets m.ways)
 second_fine m labels p limits = record { place = refl; range = rw (limits.sets, le-leb 1 m.ways limits.ways_low, le-leb m.ways 4 limits.ways_high) refl; names = refl; counts = refl; inside = tt }
 
 -- The map of the parts after all its tasks.
@@ -254,10 +254,10 @@ two_read m labels all limits high words ways =
     let sets = sets_small m.sets limits.sets in
     let memory = joined (codes "memory" ∷ decimal m.words ∷ []) in
     let cache = joined (codes "cache" ∷ decimal m.sets ∷ decimal m.ways ∷ []) in
-    let first = reads_push 1 labels all [] (1, memory) nothing (line.Memory (Some m.words)) (reads_nothing 1 labels all) (shaped (codes "memory") (decimal m.words ∷ []) (memory_all m.words words) ∙ memory_shape m.words words)
+    let first = reads_push 1 labels all [] (1, memory) nothing (line.Memory m.words) (reads_nothing 1 labels all) (shaped (codes "memory") (decimal m.words ∷ []) (memory_all m.words words) ∙ memory_shape m.words words)
     (first_fine labels m.words limits.words_low high limits.words_whole) in
-    reads_push 1 labels all ((1, memory) ∷ []) (2, cache) (with_line nothing (line.Memory (Some m.words))) (line.Cache (Some m.sets) (Some m.ways)) first
-    (shaped (codes "cache") (decimal m.sets ∷ decimal m.ways ∷ []) (cache_all m.sets m.ways sets ways) ∙ cache_shape m.sets m.ways sets ways) (second_fine m labels (with_line nothing (line.Memory (Some m.words))) limits)
+    reads_push 1 labels all ((1, memory) ∷ []) (2, cache) (with_line nothing (line.Memory m.words)) (line.Cache m.sets m.ways) first
+    (shaped (codes "cache") (decimal m.sets ∷ decimal m.ways ∷ []) (cache_all m.sets m.ways sets ways) ∙ cache_shape m.sets m.ways sets ways) (second_fine m labels (with_line nothing (line.Memory m.words)) limits)
 
 map_joined : (m : MapValue) (tasks : List ℕ) → line_text (codes "memory" ∷ decimal m.words ∷ []) ++ (line_text (codes "cache" ∷ decimal m.sets ∷ decimal m.ways ∷ []) ++ tasks)
     ≡ joined (codes "memory" ∷ decimal m.words ∷ []) ++ 10 ∷ (joined (codes "cache" ∷ decimal m.sets ∷ decimal m.ways ∷ []) ++ 10 ∷ (tasks ++ []))

@@ -9,7 +9,7 @@ use Rattle.plural_map_text.specs.declared.line.MapLine.{MapLine}
 use Rattle.plural_map_text.specs.declared.line.MapLine.TheVariants as line
 use Rattle.plural_map_text.specs.declared.line.TaskKind.{TaskKind}
 use Rattle.plural_map_text.specs.declared.line.TaskKind.TheVariants as kind
-use Rattle.plural_sections.specs.Numbers.{counted}
+use Rattle.plural_sections.specs.Numbers.{capped_numeral}
 use Rattle.plural_map_text.specs.Shape.{when_of, memory_line, cache_line, task_end, dup_task, task_line, after_line, region_line, shape, shape_of}
 
 -- The task's name and its entry are names.
@@ -45,13 +45,13 @@ of_name f text h = by (is_name text) h
 
 memory_named : (ts : List (List ℕ)) → Holds (memory_line ts)
 memory_named [] = tt
-memory_named (w ∷ []) = mapped (λ words. line.Memory words) (counted w) (λ words. tt)
+memory_named (w ∷ []) = mapped (λ words. line.Memory words) (capped_numeral w) (λ words. tt)
 memory_named (w ∷ x ∷ ts) = tt
 
 cache_named : (ts : List (List ℕ)) → Holds (cache_line ts)
 cache_named [] = tt
 cache_named (s ∷ []) = tt
-cache_named (s ∷ w ∷ []) = chained (λ sets. option_map (λ ways. line.Cache sets ways) (counted w)) (counted s) (λ sets. mapped (λ ways. line.Cache sets ways) (counted w) (λ ways. tt))
+cache_named (s ∷ w ∷ []) = chained (λ sets. option_map (λ ways. line.Cache sets ways) (capped_numeral w)) (capped_numeral s) (λ sets. mapped (λ ways. line.Cache sets ways) (capped_numeral w) (λ ways. tt))
 cache_named (s ∷ w ∷ x ∷ ts) = tt
 
 end_named : (n : List ℕ) (k : TaskKind) (ts : List (List ℕ)) → Holds (task_end n k ts)
@@ -60,15 +60,15 @@ end_named n k (e ∷ []) = tt
 end_named n k (e ∷ l ∷ []) = tt
 end_named n k (e ∷ l ∷ b ∷ []) = tt
 end_named n k (e ∷ l ∷ b ∷ v ∷ []) =
-    either (bytes_eq e (codes "entry") && bytes_eq b (codes "budget")) (option_and_then (λ name. option_and_then (λ entry. option_map (λ budget. line.Task name k entry budget) (counted v)) (name_of l)) (name_of n)) None
-    (of_name (λ name. option_and_then (λ entry. option_map (λ budget. line.Task name k entry budget) (counted v)) (name_of l)) n
-    (λ h. of_name (λ entry. option_map (λ budget. line.Task n k entry budget) (counted v)) l (λ g. mapped (λ budget. line.Task n k l budget) (counted v) (λ budget. (h, g)))))
+    either (bytes_eq e (codes "entry") && bytes_eq b (codes "budget")) (option_and_then (λ name. option_and_then (λ entry. option_map (λ budget. line.Task name k entry budget) (capped_numeral v)) (name_of l)) (name_of n)) None
+    (of_name (λ name. option_and_then (λ entry. option_map (λ budget. line.Task name k entry budget) (capped_numeral v)) (name_of l)) n
+    (λ h. of_name (λ entry. option_map (λ budget. line.Task n k entry budget) (capped_numeral v)) l (λ g. mapped (λ budget. line.Task n k l budget) (capped_numeral v) (λ budget. (h, g)))))
     tt
 end_named n k (e ∷ l ∷ b ∷ v ∷ x ∷ ts) = tt
 
 dup_named : (n : List ℕ) (ts : List (List ℕ)) → Holds (dup_task n ts)
 dup_named n [] = tt
-dup_named n (q ∷ ts) = chained (λ quota. task_end n (kind.Dup quota) ts) (counted q) (λ quota. end_named n (kind.Dup quota) ts)
+dup_named n (q ∷ ts) = chained (λ quota. task_end n (kind.Dup quota) ts) (capped_numeral q) (λ quota. end_named n (kind.Dup quota) ts)
 
 task_named : (ts : List (List ℕ)) → Holds (task_line ts)
 task_named [] = tt
@@ -88,8 +88,8 @@ region_named mode [] = tt
 region_named mode (b ∷ []) = tt
 region_named mode (b ∷ s ∷ []) = tt
 region_named mode (b ∷ s ∷ c ∷ []) =
-    chained (λ base. option_and_then (λ stride. option_map (λ count. line.Region mode base stride count) (counted c)) (counted s)) (counted b)
-    (λ base. chained (λ stride. option_map (λ count. line.Region mode base stride count) (counted c)) (counted s) (λ stride. mapped (λ count. line.Region mode base stride count) (counted c) (λ count. tt)))
+    chained (λ base. option_and_then (λ stride. option_map (λ count. line.Region mode base stride count) (capped_numeral c)) (capped_numeral s)) (capped_numeral b)
+    (λ base. chained (λ stride. option_map (λ count. line.Region mode base stride count) (capped_numeral c)) (capped_numeral s) (λ stride. mapped (λ count. line.Region mode base stride count) (capped_numeral c) (λ count. tt)))
 region_named mode (b ∷ s ∷ c ∷ x ∷ ts) = tt
 
 shape_named : (ts : List (List ℕ)) → Holds (shape ts)

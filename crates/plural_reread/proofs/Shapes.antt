@@ -4,7 +4,7 @@ use Rattle.std.specs.Prelude.{codes, decimal}
 use Rattle.std.specs.List.{list_all}
 use Rattle.std.proofs.lemmas.Bool.{ne_eqb, ltb-false, ltb-true}
 use Rattle.plural_base.specs.Names.{is_name}
-use Rattle.plural_bytes.proofs.Decimals.{counted_back}
+use Rattle.plural_sections.proofs.Caps.{capped_back}
 use Rattle.plural_bytes.proofs.Tokens.{is_token, joined, all_tokens, decimal_token, name_token, name_back}
 use Rattle.plural_regions.specs.declared.region.Mode.{Mode}
 use Rattle.plural_regions.specs.declared.region.Mode.TheVariants as mode
@@ -31,16 +31,16 @@ pub memory_all : (words : ℕ) → words < 4294967296 → list_all is_token (cod
 memory_all words h = all_tokens (codes "memory" ∷ decimal words ∷ []) (refl, (decimal_token words h, tt))
 
 -- They spell it.
-pub memory_shape : (words : ℕ) → words < 4294967296 → shape (codes "memory" ∷ decimal words ∷ []) ≡ Some (line.Memory (Some words))
-memory_shape words h = rw (counted_back words h) refl
+pub memory_shape : (words : ℕ) → words < 4294967296 → shape (codes "memory" ∷ decimal words ∷ []) ≡ Some (line.Memory words)
+memory_shape words h = rw (capped_back words h) refl
 
 -- The tokens of a cache line are tokens.
 pub cache_all : (sets ways : ℕ) → sets < 4294967296 → ways < 4294967296 → list_all is_token (codes "cache" ∷ decimal sets ∷ decimal ways ∷ []) ≡ true
 cache_all sets ways h k = all_tokens (codes "cache" ∷ decimal sets ∷ decimal ways ∷ []) (refl, (decimal_token sets h, (decimal_token ways k, tt)))
 
 -- They spell it.
-pub cache_shape : (sets ways : ℕ) → sets < 4294967296 → ways < 4294967296 → shape (codes "cache" ∷ decimal sets ∷ decimal ways ∷ []) ≡ Some (line.Cache (Some sets) (Some ways))
-cache_shape sets ways h k = rw (counted_back sets h, counted_back ways k) refl
+pub cache_shape : (sets ways : ℕ) → sets < 4294967296 → ways < 4294967296 → shape (codes "cache" ∷ decimal sets ∷ decimal ways ∷ []) ≡ Some (line.Cache sets ways)
+cache_shape sets ways h k = rw (capped_back sets h, capped_back ways k) refl
 
 -- A number of sets is small.
 pub sets_small : (sets : ℕ) → is_set_count sets ≡ true → sets < 4294967296
@@ -59,7 +59,7 @@ sets_small sets h = by (ltb sets 4294967296) refl
 -- The kind of a task.
 pub kind_of : Bool → ℕ → TaskKind
 kind_of false quota = kind.Regular
-kind_of true quota = kind.Dup (Some quota)
+kind_of true quota = kind.Dup quota
 
 -- A task's kind says whether the task is duplicable.
 pub dup_back : (dup : Bool) (quota : ℕ) → is_dup (kind_of dup quota) ≡ dup
@@ -68,9 +68,9 @@ dup_back false quota = refl
 dup_back true quota = refl
 
 -- A kind gives the task's number of instances, which is one for a regular task.
-pub quota_back : (dup : Bool) (quota : ℕ) → (dup ≡ false → quota ≡ 1) → quota_of (kind_of dup quota) ≡ Some quota
+pub quota_back : (dup : Bool) (quota : ℕ) → (dup ≡ false → quota ≡ 1) → quota_of (kind_of dup quota) ≡ quota
 unfolding kind_of
-quota_back false quota h = ap (λ n. Some n) (sym (h refl))
+quota_back false quota h = sym (h refl)
 quota_back true quota h = refl
 
 -- The tokens after `task`.
@@ -101,10 +101,10 @@ task_all true quota name entry budget q n e b =
 
 -- They spell it.
 pub task_shape : (dup : Bool) (quota : ℕ) (name entry : List ℕ) (budget : ℕ) → quota < 4294967296 → is_name name ≡ true → is_name entry ≡ true → budget < 4294967296
-    → shape (codes "task" ∷ task_tokens dup quota name entry budget) ≡ Some (line.Task name (kind_of dup quota) entry (Some budget))
+    → shape (codes "task" ∷ task_tokens dup quota name entry budget) ≡ Some (line.Task name (kind_of dup quota) entry budget)
 unfolding task_tokens kind_of
-task_shape false quota name entry budget q n e b = rw (name_back name n, name_back entry e, counted_back budget b) refl
-task_shape true quota name entry budget q n e b = rw (counted_back quota q, name_back name n, name_back entry e, counted_back budget b) refl
+task_shape false quota name entry budget q n e b = rw (name_back name n, name_back entry e, capped_back budget b) refl
+task_shape true quota name entry budget q n e b = rw (capped_back quota q, name_back name n, name_back entry e, capped_back budget b) refl
 
 -- ---- dependencies
 
@@ -139,6 +139,6 @@ region_all x base stride count b s c = all_tokens (mode_text x ∷ decimal base 
 
 -- They spell it.
 pub region_shape : (x : Mode) (base stride count : ℕ) → base < 4294967296 → stride < 4294967296 → count < 4294967296
-    → shape (mode_text x ∷ decimal base ∷ decimal stride ∷ decimal count ∷ []) ≡ Some (line.Region x (Some base) (Some stride) (Some count))
-region_shape mode.Read base stride count b s c = rw (counted_back base b, counted_back stride s, counted_back count c) refl
-region_shape mode.Write base stride count b s c = rw (counted_back base b, counted_back stride s, counted_back count c) refl
+    → shape (mode_text x ∷ decimal base ∷ decimal stride ∷ decimal count ∷ []) ≡ Some (line.Region x base stride count)
+region_shape mode.Read base stride count b s c = rw (capped_back base b, capped_back stride s, capped_back count c) refl
+region_shape mode.Write base stride count b s c = rw (capped_back base b, capped_back stride s, capped_back count c) refl

@@ -4,7 +4,7 @@ pub mod Closings
 pub mod Cuts
 pub mod PassedErrors
 pub mod ReadLines
-mod Caps
+pub mod Caps
 mod WordTokens
 pub mod Headers
 pub mod TextRules

@@ -1,7 +1,6 @@
 -- The numbers and words of a line.
-use Rattle.std.specs.Prelude.{ℕ, ◌&&◌, Bool, false, List, Option, None, min, length, option_map, nat_le, if◌then◌else◌, ◌==◌}
-use Rattle.std.specs.Option.{option_map_or}
-use Rattle.plural_bytes.specs.Numerals.{numeral, bounded, spelled}
+use Rattle.std.specs.Prelude.{ℕ, ◌&&◌, Bool, List, Option, None, min, length, option_map, nat_le, if◌then◌else◌, ◌==◌}
+use Rattle.plural_bytes.specs.Numerals.{numeral, spelled}
 
 -- The number of a numeral, capped at 4,294,967,296, which is out of the range of each number of a line.
 abbrev pub capped_numeral : List ℕ → Option ℕ
@@ -10,14 +9,6 @@ capped_numeral t = option_map (λ n. min n 4294967296) (numeral t)
 -- The number lies between these two.
 abbrev pub is_within : ℕ → ℕ → ℕ → Bool
 is_within low high n = nat_le low n && nat_le n high
-
--- The number of a numeral, if it is at most 4,294,967,295; nothing if the token is no numeral.
-abbrev pub counted : List ℕ → Option (Option ℕ)
-counted t = option_map (bounded 4294967295) (numeral t)
-
--- The number is there and lies between these two.
-abbrev pub is_between : ℕ → ℕ → Option ℕ → Bool
-is_between low high n = option_map_or (λ n. nat_le low n && nat_le n high) n false
 
 -- The word that exactly eight hexadecimal digits of either case spell.
 abbrev pub word_token : List ℕ → Option ℕ

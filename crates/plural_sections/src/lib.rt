@@ -19,5 +19,5 @@ mod sections;
 pub use border::{after_header, first_number, first_text, nothing_after};
 pub use fault::Fault;
 pub use line_error::{LineError, renamed};
-pub use numbers::{capped_numeral, counted, is_between, is_within, word_of};
+pub use numbers::{capped_numeral, is_within, word_of};
 pub use sections::{Section, next_section, section_of};

@@ -1,9 +1,9 @@
 //! The numbers and words of a line.
 
 ghost use Rattle.std.specs.Prelude.{◌≡◌};
-ghost use Rattle.plural_sections.specs.Numbers.{capped_numeral, is_within, counted, is_between, word_token};
+ghost use Rattle.plural_sections.specs.Numbers.{capped_numeral, is_within, word_token};
 
-use plural_bytes::{NumberError, bounded_number, digits, number};
+use plural_bytes::{NumberError, digits, number};
 
 /// The number of a numeral, capped at 4,294,967,296, which is out of the range of each number of a
 /// line; nothing if the text is no numeral.
@@ -22,23 +22,6 @@ pub fn is_within(low: u32, high: u32, n: u64) -> bool
     ensures { result ≡ is_within low high n }
 {
     u64::from(low) <= n && n <= u64::from(high)
-}
-
-/// The number of a numeral, with nothing inside where it is above 4,294,967,295; nothing where the text is no numeral.
-pub fn counted(text: &[u8]) -> Option<Option<u32>>
-    ensures { result ≡ counted text.now }
-{
-    bounded_number(text, 4_294_967_295)
-}
-
-/// Is a number there, from `low` to `high`?
-pub fn is_between(low: u32, high: u32, n: Option<u32>) -> bool
-    ensures { result ≡ is_between low high n }
-{
-    match n {
-        None => false,
-        Some(n) => low <= n && n <= high,
-    }
 }
 
 /// The word that a token of exactly eight hexadecimal digits of either case spells.
