@@ -1,10 +1,10 @@
 -- The faults of a verifier's input by those of its bundle and of its output.
 use Rattle.std.proofs.Common.{◌≡◌, ℕ, ◌+◌, Bool, true, false, ◌||◌, List, [], ◌∷◌, ◌++◌, length, take, refl, ap, sym, subst, ◌∙◌, append_assoc, append-nil, take-append-drop, arith, ◌⊎◌, inl, inr}
 use Rattle.std.specs.Prelude.{codes, bytes_eq}
-use Rattle.std.specs.List.{AllByRecursion, list_any, position_or_len}
+use Rattle.std.specs.List.{AllByRecursion, list_any, position_or_len, after_first}
 use Rattle.std.proofs.lemmas.Slice.Eq.{bytes_eq-Decides}
 use Rattle.std.proofs.lemmas.List.{take_at, take_all, length_push}
-use Rattle.plural_base.proofs.ListTests.{HasNone, all_front, all_back, all_append, place_none, place_at, after_at}
+use Rattle.plural_base.proofs.ListTests.{HasNone, all_front, all_back, all_append, none_found, position_none, place_at, after_at}
 use Rattle.plural_bytes.specs.Lines.{TextLine}
 use Rattle.plural_sections.specs.declared.fault.Fault.{Fault}
 use Rattle.plural_sections.specs.Kinds.{rank}
@@ -21,6 +21,7 @@ use Rattle.plural_bundle.proofs.UpToEnd.{same_up_to_end, past_end}
 use Rattle.plural_output.specs.Parts.{is_end, bundle_part, output_part}
 use Rattle.plural_output.specs.Rules as output
 use Rattle.plural_cli.specs.Lines.{IsFaulty}
+use Rattle.plural_cli.specs.Reading.{IsWhole}
 use Rattle.plural_cli.specs.Joint.{map_in, OnceEnded, Breaks, IsJoint}
 use Rattle.plural_cli.specs.Verify.{IsOutputAnswer, IsJointAnswer}
 
@@ -39,7 +40,7 @@ any_at [] e ys h = ap (λ b. b || list_any is_end ys) h
 any_at (x ∷ xs) e ys h = ap (λ b. is_end x || b) (any_at xs e ys h) ∙ or_true (is_end x)
 
 part_none : (all : List TextLine) → HasNone is_end all → bundle_part all ≡ all
-part_none all h = take_all (position_or_len is_end all + 1) all (omega (arith, place_none is_end all h))
+part_none all h = take_all (position_or_len is_end all + 1) all (omega (arith, none_found is_end all (position_none is_end all h)))
 
 part_at : (xs : List TextLine) (e : TextLine) (out : List TextLine) → HasNone is_end xs → is_end e ≡ true → bundle_part (xs ++ e ∷ out) ≡ xs ++ e ∷ []
 part_at xs e out none h =
@@ -207,8 +208,8 @@ refused_in_bundle all end status text h = inr (record {
   text_is = h.text_is;
 })
 
--- The answer to the output after a bundle is that to the input.
-pub answered_in_output : (all : List TextLine) (end status : ℕ) (text : List ℕ) → IsBundle all (bundle_part all) end → IsOutputAnswer (bundle_of (bundle_part all)) (output_part all) end status text
+-- the answer to the output after a bundle is that to the input
+answered_in_output : (all : List TextLine) (end status : ℕ) (text : List ℕ) → IsBundle all (bundle_part all) end → IsOutputAnswer (bundle_of (bundle_part all)) (output_part all) end status text
     → IsJointAnswer all end status text
 answered_in_output all end status text f a =
     let s = bundle_splits all end f in
@@ -217,3 +218,11 @@ answered_in_output all end status text f a =
       | inl w ↦ inl (s.to_output end w.output, w.answer)
       | inr r ↦ inr (record { line = r.line; kind = r.kind; first = s.to_first end r.line r.kind r.first; status_is = r.status_is; text_is = r.text_is })
     ]
+
+-- The answer to the lines after those that were read as a bundle is that to the input.
+pub answered_whole : (all lines others : List TextLine) (end : ℕ) (b : BundleValue) → lines ≡ bundle_part all → others ≡ output_part all → IsWhole all lines end b
+    → (status : ℕ) (text : List ℕ) → IsOutputAnswer b others end status text → IsJointAnswer all end status text
+answered_whole all lines others end b l o w status text a =
+    answered_in_output all end status text (subst (λ (ls : List TextLine). IsBundle all ls end) l w.bundle)
+    (subst (λ (v : BundleValue). IsOutputAnswer v (output_part all) end status text) (w.value ∙ ap bundle_of l)
+    (subst (λ (ls : List TextLine). IsOutputAnswer b ls end status text) o a))

@@ -21,17 +21,3 @@ one_more c ps n false h = omega (arith, h, length-onto_first c ps)
 pub length-pieces : (text : List ℕ) → length (pieces text) ≤ length text
 length-pieces [] = omega arith
 length-pieces (c ∷ cs) = omega (arith, one_more c (pieces cs) (length cs) (is_line_end c) (length-pieces cs))
-
-filter_at_most : {X : Type 0} (p : X → Bool) (xs : List X) → length (filter p xs) ≤ length xs
-filter_at_most p xs = omega (arith, length-filter_both p (λ x. not (p x)) (λ x. refl) xs)
-
--- A text has no more content lines than bytes
-pub length-content_lines : (text : List ℕ) → length (content_lines text) ≤ length text
-length-content_lines text =
-    let numbered = enumerate_from 1 (pieces text) in
-    let filled : length (content_lines text) ≤ length (map (λ (l : TextLine). (l.0, content l.1)) numbered) = filter_at_most (λ (l : TextLine). has_text l.1) (map (λ (l : TextLine). (l.0, content l.1)) numbered) in
-    omega (arith, filled, length-map {B = TextLine} numbered (λ (l : TextLine). (l.0, content l.1)), length-enumerate_from 1 (pieces text), length-pieces text)
-
--- The content lines of a text are no more than its bytes.
-pub length-lines : (lines : List Line) (text : List ℕ) → text_lines lines ≡ content_lines text → length lines ≤ length text
-length-lines lines text e = omega (arith, length-map lines text_line, ap length e, length-content_lines text)

@@ -54,7 +54,6 @@ pub(crate) fn read_lines<'b>(
     lines: &[Line<'b>],
     end: u32,
 ) -> Result<Reading, Memory>
-    requires { length lines.now ≤ 67108864 }
     ensures { IfOk result (λ r. IsReading (text_lines input.now) (text_lines lines.now) end r) }
 {
     match read_bundle(alloc, input, lines, end) {

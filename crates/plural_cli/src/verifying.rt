@@ -90,7 +90,6 @@ fn output_answer(
     end: u32,
 ) -> Result<Answer, Memory>
     requires start { length bundle.now.image ≡ bundle.now.program.map.words }
-    requires few { length lines.now ≤ 67108864 }
     ensures answer { IfOk result (λ a. IsOutputAnswer bundle.now (text_lines lines.now) end a.status a.text.items) }
     ensures told { IfOk result (λ a. IsTold a.status) }
 {
@@ -103,7 +102,6 @@ fn output_answer(
 
 /// The answer to content lines. `end` is the number of the line after the last.
 fn joint_answer(alloc: Global, lines: &[Line<'_>], end: u32) -> Result<Answer, Memory>
-    requires { length lines.now ≤ 67108864 }
     ensures answer { IfOk result (λ a. IsJointAnswer (text_lines lines.now) end a.status a.text.items) }
     ensures told { IfOk result (λ a. IsTold a.status) }
 {

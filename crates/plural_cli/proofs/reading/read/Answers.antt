@@ -3,16 +3,12 @@ use Rattle.plural_bytes.specs.Lines.{TextLine}
 use Rattle.plural_bytes.specs.Spelled.{text_lines}
 use Rattle.plural_cli.specs.Lines.{line_after}
 use Rattle.plural_cli.specs.Reading.{IsReading}
-use Rattle.plural_cli.proofs.LineCounts.{length-pieces, length-lines}
+use Rattle.plural_cli.proofs.LineCounts.{length-pieces}
 use Rattle.plural_cli.proofs.reading.read.Goals as goal
 
 -- The value of `line_count` stays in its type.
 pub overflow_add-line_count : goal.overflow_add-line_count
 overflow_add-line_count c = omega (arith, c.requires, length-pieces c.args.bytes.now, c.line_count.ensures)
-
--- The call of `read_lines` has what it requires.
-pub read_lines-requires : goal.read_lines-requires
-read_lines-requires c = omega (arith, c.requires, length-lines c.in_ok-lines.lines.items c.args.bytes.now c.in_ok-lines.ensures, ap length c.as_slice-lines.ensures.value)
 
 -- The answer meets the contract.
 pub returns : goal.returns

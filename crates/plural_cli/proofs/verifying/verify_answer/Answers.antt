@@ -3,16 +3,12 @@ use Rattle.plural_bytes.specs.Lines.{TextLine}
 use Rattle.plural_bytes.specs.Spelled.{text_lines}
 use Rattle.plural_cli.specs.Lines.{line_after}
 use Rattle.plural_cli.specs.Verify.{IsJointAnswer}
-use Rattle.plural_cli.proofs.LineCounts.{length-pieces, length-lines}
+use Rattle.plural_cli.proofs.LineCounts.{length-pieces}
 use Rattle.plural_cli.proofs.verifying.verify_answer.Goals as goal
 
 -- The value of `line_count` stays in its type.
 pub overflow_add-line_count : goal.overflow_add-line_count
 overflow_add-line_count c = omega (arith, c.requires, length-pieces c.args.bytes.now, c.line_count.ensures)
-
--- The call of `joint_answer` has what it requires.
-pub joint_answer-requires : goal.joint_answer-requires
-joint_answer-requires c = omega (arith, c.requires, length-lines c.in_ok-lines.lines.items c.args.bytes.now c.in_ok-lines.ensures, ap length c.deref.ensures.value)
 
 -- The answer meets the clause `answer`.
 pub returns-clause-answer : goal.returns-clause-answer
