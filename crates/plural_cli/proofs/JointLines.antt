@@ -180,6 +180,7 @@ never all h none =
     let last = all_back (λ l. is_end l ≡ false) p.image_part ((p.at_end, codes "[end]") ∷ h.rest) image.1 in
     let f : true ≡ false = last.0 in absurd cc
 
+-- A bundle up to the first `[end]` splits the lines there.
 pub bundle_splits : (all : List TextLine) (end : ℕ) → IsBundle all (bundle_part all) end → Splits all
 bundle_splits all end f =
     let whole : bundle_part all ++ output_part all ≡ all = take-append-drop (position_or_len is_end all + 1) all in

@@ -21,16 +21,16 @@ abbrev pub OnceEnded : (ended : Bool) → (InBundle InOutput : Type 0) → Type 
 OnceEnded true InBundle InOutput = InOutput
 OnceEnded false InBundle InOutput = InBundle
 
--- A line of an input of all these lines, after those before it: up to and with the first `[end]` it is one of a bundle, and
--- after it one of the output of a run of this bundle.
+-- A line of an input of all these lines, after those before it: up to and with the first `[end]` it is one of a
+-- bundle, and after it one of the output of a run of this bundle.
 abbrev pub Breaks : (all : List TextLine) → LineRule Fault
 Breaks all before text fault =
     OnceEnded (list_any is_end before)
     (bundle.Breaks all all before text fault)
     (output.Breaks (map_in all).tasks (map_in all).words (after_first is_end before) text fault)
 
--- The lines are a bundle and the output of a run of it: none has a fault, nor has the end of the text, which is seen as a
--- line without text of number `end`.
+-- The lines are a bundle and the output of a run of it: none has a fault, nor has the end of the text, which is seen
+-- as a line without text of number `end`.
 abbrev pub IsJoint : (lines : List TextLine) (end : ℕ) → Type 0
 IsJoint lines end = IsFaultless (Breaks lines) (closed lines end)
 

@@ -66,8 +66,8 @@ IsFaultyOutput b lines end status text =
 abbrev pub IsOutputAnswer : BundleValue → (lines : List TextLine) (end : ℕ) (status : ℕ) (text : List ℕ) → Type 0
 IsOutputAnswer b lines end status text = IsReadWhole b lines end status text ⊎ IsFaultyOutput b lines end status text
 
--- The lines are a bundle and the output of a run of it: the first clash is told, or the verdict. Or they have a fault, and
--- the first is told.
+-- The lines are a bundle and the output of a run of it: the first clash is told, or the verdict. Or they have a
+-- fault, and the first is told.
 abbrev pub IsJointAnswer : (lines : List TextLine) (end : ℕ) (status : ℕ) (text : List ℕ) → Type 0
 IsJointAnswer lines end status text =
     (IsJoint lines end × IsVerdictOn (bundle_of lines) (output_in lines) status text)
