@@ -20,7 +20,8 @@ life_going : (n : ℕ) (p : Place) (s : State) (m : List ℕ) → s.over ≡ Non
 unfolding life
 life_going n p s m h = rw h refl
 
-life_over : (n : ℕ) (p : Place) (s : State) (m : List ℕ) (e : End) → s.over ≡ Some e → life n p s m ≡ stay s m
+-- A state with an end stays.
+pub life_over : (n : ℕ) (p : Place) (s : State) (m : List ℕ) (e : End) → s.over ≡ Some e → life n p s m ≡ stay s m
 unfolding life
 life_over zero p s m e h = refl
 life_over (suc n) p s m e h = rw h refl
@@ -75,7 +76,8 @@ after-after : (i j : ℕ) (e : Option (List (ℕ × ℕ))) → after j (after i 
 after-after i j None = refl
 after-after i j (Some stores) = ap Some (drop-drop j i stores)
 
-join_assoc : (a b c : Step) → join (join a b) c ≡ join a (join b c)
+-- Three steps one after another.
+pub join_assoc : (a b c : Step) → join (join a b) c ≡ join a (join b c)
 join_assoc a b c = rw (append_assoc, append_assoc) refl
 
 join_stay : (t : Step) → join t (stay t.state t.memory) ≡ t

@@ -8,3 +8,6 @@ pub mod Execution
 pub mod Port
 pub mod Life
 pub mod Footprint
+pub mod Ends
+pub mod Stores
+pub mod Laws
