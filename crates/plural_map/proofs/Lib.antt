@@ -1,3 +1,5 @@
 pub mod OrderLemmas
 pub mod DeclarationOrder
 pub mod Lookups
+pub mod OrderPlaces
+pub mod OrderCuts

@@ -32,7 +32,7 @@ ready_within : (tasks : List TaskValue) (done : List ℕ) (t : ℕ) → is_ready
 ready_within tasks done t r = let h = ready_task tasks done t r in slice_get_within tasks t h.0 h.1
 
 -- The next number is ready.
-next_is_ready : (tasks : List TaskValue) (done : List ℕ) (t : ℕ) → next_ready tasks done ≡ Some t → is_ready tasks done t ≡ true
+pub next_is_ready : (tasks : List TaskValue) (done : List ℕ) (t : ℕ) → next_ready tasks done ≡ Some t → is_ready tasks done t ≡ true
 next_is_ready tasks done t e =
     let p = position-Some (is_ready tasks done) (range_with_len 0 (length tasks)) t 0 e in
     let l : t < length tasks = rw length-range_with_len at p.0 in

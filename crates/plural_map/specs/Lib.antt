@@ -8,3 +8,4 @@ pub mod Lookup
 pub mod Decisions
 pub mod Order
 pub mod Limits
+pub mod WholeOrder

@@ -1,17 +1,16 @@
 -- A task's place in the order, and the test for coming before.
-use Rattle.std.proofs.Common.{◌≡◌, ℕ, zero, suc, ◌+◌, ◌<◌, ◌≤◌, Bool, true, false, ◌||◌, eqb, cond, List, [], ◌∷◌, ◌++◌, length, take, get_or, Option, Some, None, refl, sym, ap, subst, ◌∙◌, arith, eqb-true, ◌⊎◌, ⊎_elim}
+use Rattle.std.proofs.Common.{◌≡◌, ℕ, zero, suc, ◌+◌, ◌<◌, Bool, true, false, ◌||◌, eqb, cond, List, [], ◌∷◌, length, take, get_or, refl, sym, ap, subst, ◌∙◌, arith, eqb-true, inl, inr, ⊎_elim}
 use Rattle.std.specs.Prelude.{◌==◌}
 use Rattle.std.specs.List.{list_any}
-use Rattle.std.specs.Option.{option_map_or}
-use Rattle.std.proofs.lemmas.Bool.{eq-eqb}
+use Rattle.std.proofs.lemmas.Bool.{eq-eqb, cases_Bool, true≢false, false_from_ne_true}
 use Rattle.std.proofs.lemmas.Option.{slice_get_within}
-use Rattle.std.proofs.lemmas.List.{length_push}
 use Rattle.plural_map.specs.declared.outcome.Dep.{Dep}
 use Rattle.plural_map.specs.Value.{TaskValue}
-use Rattle.plural_map.specs.Order.{is_among, next_ready, order_from, order_of}
+use Rattle.plural_map.specs.Order.{is_among, order_of}
+use Rattle.plural_map.proofs.OrderPlaces.{order_long}
 use Rattle.plural_reach.specs.Chains.{deps_of, DependsOn, LeadsBack, Before, before_in, comes_before}
 use Rattle.plural_reach.specs.Tables.{says_before}
-use Rattle.plural_reach.specs.Laws.{place_in, rank_of, Reaches, BeforeTest, TableTest, BeforeRises}
+use Rattle.plural_reach.specs.Laws.{place_in, rank_of, Reaches, BeforeTest, TableTest, BeforeRises, BeforeDecided, NeverItself}
 use Rattle.plural_reach.proofs.DepLemmas.{or_cases, or_left, or_right, any_weaker}
 use Rattle.plural_reach.proofs.ChainLemmas.{dependent}
 use Rattle.plural_reach.proofs.Places.{step_back}
@@ -27,7 +26,8 @@ place_take (x ∷ xs) (suc i) t h = by (eqb x t) (λ k. place_take xs i t k) h
     by true later k = omega arith
     by false later k = omega (arith, later k)
 
-place_there : (xs : List ℕ) (t : ℕ) → is_among t xs ≡ true → (place_in xs t < length xs) × (get_or xs (place_in xs t) 0 ≡ t)
+-- A number of a list is at its place.
+pub place_there : (xs : List ℕ) (t : ℕ) → is_among t xs ≡ true → (place_in xs t < length xs) × (get_or xs (place_in xs t) 0 ≡ t)
 place_there [] t h = absurd cc
 place_there (x ∷ xs) t h = by (eqb x t) refl (λ k. place_there xs t k) h
   where
@@ -38,10 +38,12 @@ place_there (x ∷ xs) t h = by (eqb x t) refl (λ k. place_there xs t k) h
 
 -- ---- dependencies
 
-task_within : (tasks : List TaskValue) (u t : ℕ) → DependsOn tasks u t → u < length tasks
+-- A number that depends on another is that of a task.
+pub task_within : (tasks : List TaskValue) (u t : ℕ) → DependsOn tasks u t → u < length tasks
 task_within tasks u t h = let k = dependent tasks u t h in slice_get_within tasks u k.0 k.1
 
-dep_rises : (tasks : List TaskValue) → Reaches tasks → (u t : ℕ) → DependsOn tasks u t → rank_of tasks t < rank_of tasks u
+-- A task stands after those that it depends on.
+pub dep_rises : (tasks : List TaskValue) → Reaches tasks → (u t : ℕ) → DependsOn tasks u t → rank_of tasks t < rank_of tasks u
 unfolding rank_of
 dep_rises tasks reaches u t h =
     let p = place_there (order_of tasks) u (reaches u (task_within tasks u t h)) in
@@ -54,20 +56,6 @@ chain_rises tasks reaches (w ∷ between) u t h = omega (arith, dep_rises tasks 
 -- A task comes before later ones of the order alone.
 pub before_rises : BeforeRises
 before_rises tasks reaches t u h = omega (arith, chain_rises tasks reaches h.0 u t h.1)
-
--- ---- how long the order is
-
-order_from_long : (fuel : ℕ) (tasks : List TaskValue) (done : List ℕ) → length (order_from fuel tasks done) ≤ fuel + length done
-unfolding order_from
-order_from_long zero tasks done = omega arith
-order_from_long (suc fuel) tasks done = by (next_ready tasks done) (λ t. order_from_long fuel tasks (done ++ t ∷ []))
-  where
-    by : (n : Option ℕ) → ((t : ℕ) → length (order_from fuel tasks (done ++ t ∷ [])) ≤ fuel + length (done ++ t ∷ [])) → length (option_map_or (λ t. order_from fuel tasks (done ++ t ∷ [])) n done) ≤ suc fuel + length done
-    by None more = omega arith
-    by (Some t) more = let m = more t in omega (arith, m, length_push done t)
-
-order_long : (tasks : List TaskValue) → length (order_of tasks) ≤ length tasks
-order_long tasks = let h = order_from_long (length tasks) tasks [] in omega (arith, h)
 
 -- ---- the test
 
@@ -127,3 +115,19 @@ table_test tasks r reaches table t u l =
     let b = before_test tasks reaches t u in
     let e = table.exact t u l in
     same_truth (says_before r t u) (comes_before tasks t u) (λ h. b.1 (e.0 h)) (λ h. e.1 (b.0 h))
+
+-- Whether a task comes before another is decided.
+pub before_decided : BeforeDecided
+before_decided tasks reaches t u = ⊎_elim
+    (λ (h : comes_before tasks t u ≡ true). inl ((before_test tasks reaches t u).0 h))
+    (λ (h : comes_before tasks t u ≡ false). inr (λ (b : Before tasks t u). true≢false (sym ((before_test tasks reaches t u).1 b) ∙ h)))
+    (cases_Bool (comes_before tasks t u))
+
+-- No task comes before itself.
+pub never_itself : NeverItself
+never_itself tasks reaches t h = absurd (omega (arith, before_rises tasks reaches t t h))
+
+-- Of two tasks one comes before the other at most.
+pub apart : (tasks : List TaskValue) → Reaches tasks → (t u : ℕ) → comes_before tasks t u ≡ true → comes_before tasks u t ≡ false
+apart tasks reaches t u h = false_from_ne_true (comes_before tasks u t) (λ k.
+    omega (arith, before_rises tasks reaches t u ((before_test tasks reaches t u).0 h), before_rises tasks reaches u t ((before_test tasks reaches u t).0 k)))

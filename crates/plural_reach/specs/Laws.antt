@@ -1,5 +1,5 @@
 -- What holds of coming before, in a list of tasks that its order reaches each of.
-use Rattle.std.specs.Prelude.{ℕ, suc, ◌≡◌, ◌<◌, ◌↔◌, ◌==◌, true, List, [], ◌∷◌, length, cond}
+use Rattle.std.specs.Prelude.{ℕ, suc, ◌≡◌, ◌⊎◌, ◌<◌, ◌↔◌, ◌==◌, true, List, [], ◌∷◌, length, cond}
 use Rattle.plural_map.specs.Value.{TaskValue}
 use Rattle.plural_map.specs.Order.{is_among, order_of}
 use Rattle.plural_reach.specs.declared.tables.Reach.{Reach}
@@ -36,3 +36,11 @@ BeforeThrough = (tasks : List TaskValue) (t u v : ℕ) → Before tasks t u → 
 abbrev pub BeforeRises : Type 0
 BeforeRises = (tasks : List TaskValue) → Reaches tasks → (t u : ℕ) → Before tasks t u
     → rank_of tasks t < rank_of tasks u
+
+-- Of any two tasks, either one comes before the other or it doesn't.
+abbrev pub BeforeDecided : Type 0
+BeforeDecided = (tasks : List TaskValue) → Reaches tasks → (t u : ℕ) → Before tasks t u ⊎ (Before tasks t u → ⊥)
+
+-- No task comes before itself.
+abbrev pub NeverItself : Type 0
+NeverItself = (tasks : List TaskValue) → Reaches tasks → (t : ℕ) → Before tasks t t → ⊥

@@ -1,5 +1,5 @@
 //! Laws over coming before.
-ghost use Rattle.plural_reach.specs.Laws.{BeforeTest, TableTest, BeforeThrough, BeforeRises};
+ghost use Rattle.plural_reach.specs.Laws.{BeforeTest, TableTest, BeforeThrough, BeforeRises, BeforeDecided, NeverItself};
 
 /// The test for coming before is exact.
 pub fn before_test()
@@ -19,4 +19,14 @@ pub fn before_through()
 /// No task comes before one that stands no later in the order.
 pub fn before_rises()
     ensures { BeforeRises }
+{}
+
+/// Of any two tasks, either one comes before the other or it doesn't.
+pub fn before_decided()
+    ensures { BeforeDecided }
+{}
+
+/// No task comes before itself.
+pub fn never_itself()
+    ensures { NeverItself }
 {}

@@ -16,7 +16,8 @@ use Rattle.plural_serial.specs.Program.{ProgramValue, task_at}
 use Rattle.plural_serial.specs.Serial.{Started, Run, instances, with_task, by_decision, opening, serial_of}
 use Rattle.plural_serial.specs.Answer.{record_of}
 use Rattle.plural_trace.specs.Verdicts.{records_of}
-use Rattle.plural_reach.proofs.Places.{not_before, places_differ}
+use Rattle.plural_map.proofs.OrderPlaces.{places_differ}
+use Rattle.plural_reach.proofs.Places.{not_before}
 
 -- ---- instances by their places
 

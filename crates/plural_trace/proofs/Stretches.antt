@@ -17,7 +17,7 @@ use Rattle.plural_serial.specs.Answer.{record_of}
 use Rattle.plural_trace.specs.Rules.{no_entry}
 use Rattle.plural_trace.specs.Instances.{StandByInstance}
 use Rattle.plural_trace.specs.Verdicts.{records_of}
-use Rattle.plural_reach.proofs.Places.{places_differ}
+use Rattle.plural_map.proofs.OrderPlaces.{places_differ}
 use Rattle.plural_trace.proofs.InstanceOrder.{IsPlaced, IsRun, task_run}
 
 -- What stands past the last instance.
