@@ -3,3 +3,4 @@ pub mod DeclarationOrder
 pub mod Lookups
 pub mod OrderPlaces
 pub mod OrderCuts
+pub mod DecisionLemmas

@@ -85,7 +85,7 @@ used_one_more tasks t done h new =
 -- ---- the instances of one task
 
 -- The first n instances of a task are n.
-instances_count : (p : ProgramValue) (t n : ℕ) (m : List ℕ) → length (instances p t n m).ran ≡ n
+pub instances_count : (p : ProgramValue) (t n : ℕ) (m : List ℕ) → length (instances p t n m).ran ≡ n
 unfolding instances
 instances_count p t zero m = refl
 instances_count p t (suc n) m =

@@ -1,6 +1,8 @@
-pub mod Accesses
 pub mod Few
 pub mod Footprint
 pub mod Runs
-pub mod Settled
-pub mod Within
+pub mod DoneTasks
+pub mod RanTasks
+pub mod Turns
+pub mod Stretches
+pub mod WholeLives

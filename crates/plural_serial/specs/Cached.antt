@@ -1,5 +1,5 @@
 -- What a cache over a bus keeps, and when the two may be used together. (This project's own.)
-use Rattle.std.specs.Prelude.{ℕ, ◌≡◌, ◌+◌, ◌*◌, ◌%◌, ◌^◌, ◌≤◌, Bool, List, length}
+use Rattle.std.specs.Prelude.{ℕ, ◌≡◌, ◌+◌, ◌*◌, ◌%◌, ◌^◌, ◌≤◌, List, length}
 use Rattle.plural_map.specs.Value.{MapValue}
 use Rattle.plural_base.specs.Told.{Told, Counted}
 use Rattle.plural_cache.specs.Cache.{CacheValue, StandsFor, Agrees}

@@ -1,5 +1,5 @@
 -- What a cache over a bus keeps holds of no change and of two changes in turn.
-use Rattle.std.proofs.Common.{ℕ, ◌∙◌, refl, arith}
+use Rattle.std.proofs.Common.{◌∙◌, refl, arith}
 use Rattle.plural_base.specs.Told.{Counted}
 use Rattle.plural_cache.specs.Cache.{CacheValue}
 use Rattle.plural_serial.specs.Cached.{KeepsCounts}

@@ -1,6 +1,8 @@
 pub use Rattle.plural_base.specs.Told
 pub use Rattle.plural_core.specs.Turn
 pub use Rattle.plural_core.specs.Life
+pub use Rattle.plural_core.specs.Ends
+pub use Rattle.plural_core.specs.Stores
 pub use Rattle.plural_cache.specs.Bus
 pub use Rattle.plural_cache.specs.Miss
 pub use Rattle.plural_cache.specs.Cache
@@ -15,3 +17,6 @@ pub mod Serial
 pub mod Answer
 pub mod Footprint
 pub mod Few
+pub mod Instances
+pub mod Stretches
+pub mod Laws

@@ -15,7 +15,7 @@ use Rattle.plural_serial.specs.Program.{ProgramValue, task_at}
 use Rattle.plural_serial.specs.Serial.{Started, Run, instances, with_task, by_decision, opening, serial_of}
 use Rattle.plural_serial.specs.Answer.{AnswerValue, IsSerial, record_of}
 use Rattle.plural_serial.proofs.Few.{few_records}
-use Rattle.plural_serial.proofs.Settled.{next_within}
+use Rattle.plural_serial.proofs.DoneTasks.{next_within}
 use Rattle.plural_trace.specs.declared.entry.Entry.{Entry}
 use Rattle.plural_trace.specs.Laws.{SerialFits}
 use Rattle.plural_trace.specs.Least.{least}
