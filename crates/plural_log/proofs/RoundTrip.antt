@@ -29,7 +29,8 @@ use Rattle.plural_log.specs.Print.{task_text, task_texts, end_text, counts_text,
 use Rattle.plural_log.specs.Shape.{counts_of, times_of, shape, shape_of}
 use Rattle.plural_log.specs.Spelled.{end_value, entry_value, nothing, log_of}
 use Rattle.plural_log.specs.Faults.{is_large, is_no_end, least_kind}
-use Rattle.plural_trace.specs.Logs.{IsEnd, IsEntry, IsLog}
+use Rattle.plural_core.specs.Ends.{IsEnd}
+use Rattle.plural_trace.specs.Logs.{IsEntry, IsLog}
 use Rattle.plural_log.specs.Laws.{LogRoundTrip}
 use Rattle.plural_log.proofs.Reading.{Reads, reads_nothing, reads_push, none_of_four, closed_reads}
 

@@ -7,6 +7,6 @@ pub mod RecordPlaces
 pub mod SerialResults
 pub mod FirstFailure
 pub mod SerialEntries
-pub mod InstanceOrder
-pub mod Stretches
+pub mod RecordOrder
+pub mod RecordNumbers
 pub mod SerialLegal

@@ -21,7 +21,7 @@ use Rattle.plural_trace.specs.Verdicts.{Expected, expected_by, Records, Tickets,
 use Rattle.plural_trace.specs.Laws.{SerialIsLegal}
 use Rattle.plural_trace.proofs.RecordLookup.{record_test, missing_test}
 use Rattle.plural_trace.proofs.SerialResults.{outcome_test, expected_same}
-use Rattle.plural_trace.proofs.InstanceOrder.{IsLater, InOrder, records_in_order}
+use Rattle.plural_trace.proofs.RecordOrder.{IsLater, InOrder, records_in_order}
 
 no_record : Record
 no_record = no_entry.rec

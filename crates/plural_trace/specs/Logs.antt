@@ -1,8 +1,7 @@
 -- A log as contracts see it.
 use Rattle.std.specs.Prelude.{ℕ, ◌≡◌, ◌<◌, ◌≤◌, List, length}
 use Rattle.std.specs.List.{All}
-use Rattle.plural_core.specs.declared.end.End.{End}
-use Rattle.plural_core.specs.declared.end.End.TheVariants as end
+use Rattle.plural_core.specs.Ends.{IsEnd}
 use Rattle.plural_map.specs.Value.{MapValue}
 use Rattle.plural_map.specs.declared.outcome.Outcome.{Outcome}
 use Rattle.plural_trace.specs.declared.entry.Entry.{Entry}
@@ -12,13 +11,6 @@ pub record LogValue : Type 0 where
   pub cores : ℕ
   pub outcomes : List Outcome
   pub entries : List Entry
-
--- A trap's cause is 1 to 9 and its pc below 2^32.
-abbrev pub IsEnd : End → Type 0
-IsEnd end.Code0 = Unit {0}
-IsEnd end.Code1 = Unit {0}
-IsEnd (end.Trap cause pc) = (1 ≤ cause) × (cause ≤ 9) × (pc < 4294967296)
-IsEnd end.Exhausted = Unit {0}
 
 -- The entry is of one of so many tasks, its trap's cause is 1 to 9, and its numbers are below 2^32.
 pub record IsEntry (tasks : ℕ) (e : Entry) : Type 0 where

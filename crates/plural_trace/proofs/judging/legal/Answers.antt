@@ -4,7 +4,7 @@ use Rattle.plural_map.specs.Value.{MapValue}
 use Rattle.plural_map.specs.Limits.{IsMap}
 use Rattle.plural_trace.specs.Verdicts.{Expected, IsVerdict, expected_by}
 use Rattle.plural_trace.proofs.SerialResults.{expected_same}
-use Rattle.plural_trace.proofs.Stretches.{records_standing}
+use Rattle.plural_trace.proofs.RecordNumbers.{records_standing}
 use Rattle.plural_trace.proofs.judging.legal.Goals as goal
 
 -- The call of `judge` has what its clause `by_instance` requires.

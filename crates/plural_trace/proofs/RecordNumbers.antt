@@ -3,7 +3,7 @@ use Rattle.std.proofs.Common.{◌≡◌, ℕ, zero, suc, ◌+◌, ◌-◌, ◌<�
 use Rattle.std.specs.Prelude.{fold, slice_index}
 use Rattle.std.specs.List.{All}
 use Rattle.std.proofs.lemmas.Bool.{cases_lt, eq-eqb, ne_eqb}
-use Rattle.std.proofs.lemmas.List.{length_push, length-append, length-map, get_or_append_left, get_or-append_right, get_or_push, get_or-map, drop_more, drop_all}
+use Rattle.std.proofs.lemmas.List.{length-append, length-map, get_or_append_left, get_or-append_right, get_or_push, get_or-map, drop_more, drop_all}
 use Rattle.plural_map.specs.declared.outcome.Decision.{Decision}
 use Rattle.plural_map.specs.declared.outcome.Decision.TheVariants as decision
 use Rattle.plural_map.specs.Value.{TaskValue}
@@ -18,23 +18,19 @@ use Rattle.plural_trace.specs.Rules.{no_entry}
 use Rattle.plural_trace.specs.Instances.{StandByInstance}
 use Rattle.plural_trace.specs.Verdicts.{records_of}
 use Rattle.plural_map.proofs.OrderPlaces.{places_differ}
-use Rattle.plural_trace.proofs.InstanceOrder.{IsPlaced, IsRun, task_run}
+use Rattle.plural_serial.proofs.Few.{instances_count}
+use Rattle.plural_serial.proofs.Turns.{IsPlaced, IsRun, task_run}
 
 -- What stands past the last instance.
-pub no_start : Started
+no_start : Started
 no_start = record { t = 0; k = 0; start = [] }
 
 -- Instances that stand by their numbers after the places at which their tasks begin.
-pub record AreStanding (ss : List Started) : Type 0 where
+record AreStanding (ss : List Started) : Type 0 where
   pub begin : ℕ → ℕ
   pub each : (i : ℕ) → i < length ss → i ≡ begin (get_or ss i no_start).t + (get_or ss i no_start).k
 
 -- ---- the instances of one task
-
-instances_long : (p : ProgramValue) (t n : ℕ) (m : List ℕ) → length (instances p t n m).ran ≡ n
-unfolding instances
-instances_long p t zero m = refl
-instances_long p t (suc n) m = length_push (instances p t n m).ran _ ∙ (let h = instances_long p t n m in omega arith)
 
 -- Instance i stands at place i.
 record IsInstance (t i : ℕ) (s : Started) : Type 0 where
@@ -62,7 +58,7 @@ instances_at p t (suc n) m i l = elim (cases_lt i n) [
     new = record { t = t; k = n; start = (instances p t n m).memory }
 
     long : length ran ≡ n
-    long = instances_long p t n m
+    long = instances_count p t n m
 
 -- ---- one task more
 
@@ -76,7 +72,7 @@ more_standing p t n m ss others h = record {
         h.each i lt ∙ ap (λ n. n + (get_or ss i no_start).k) (sym (old (get_or ss i no_start).t (others i no_start lt))) ∙ ap (λ (s : Started). begin s.t + s.k) (sym at)
     | inr le ↦
         let at : get_or (ss ++ ran) i no_start ≡ get_or ran (i - length ss) no_start = get_or-append_right ss ran (length ss) i no_start refl le in
-        let many : length (ss ++ ran) ≡ length ss + n = length-append ss ran ∙ ap (λ n. length ss + n) (instances_long p t n m) in
+        let many : length (ss ++ ran) ≡ length ss + n = length-append ss ran ∙ ap (λ n. length ss + n) (instances_count p t n m) in
         let own = instances_at p t n m (i - length ss) (omega arith) in
         let sum : begin (get_or ran (i - length ss) no_start).t + (get_or ran (i - length ss) no_start).k ≡ length ss + (i - length ss) = (λ j. begin (own.own j) + own.number j) ∙ ap (λ n. n + (i - length ss)) new in
         (let back : i ≡ length ss + (i - length ss) = omega arith in back) ∙ sym sum ∙ ap (λ (s : Started). begin s.t + s.k) (sym at)
