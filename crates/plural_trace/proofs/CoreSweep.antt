@@ -1,11 +1,12 @@
 -- The first interval that overlaps an earlier one of its core, found by rising tickets.
-use Rattle.std.proofs.Common.{◌≡◌, ℕ, zero, suc, ◌+◌, ◌*◌, ◌<◌, ◌≤◌, min, max, Bool, true, false, not, ◌||◌, ◌&&◌, eqb, ltb, List, [], ◌∷◌, length, take, set, replicate, get_or, None, refl, sym, ap, subst, ◌∙◌, arith, eqb-true, ◌⊎◌, inl, inr}
+use Rattle.std.proofs.Common.{◌≡◌, ℕ, zero, suc, ◌+◌, ◌*◌, ◌<◌, ◌≤◌, min, max, Bool, true, false, not, ◌||◌, ◌&&◌, eqb, ltb, List, [], ◌∷◌, length, take, set, replicate, get_or, None, refl, sym, ap, subst, ◌∙◌, arith, eqb-true, inl, inr}
 use Rattle.std.proofs.lemmas.Bool.{cases_lt, cases_eq, cases_order, eq-eqb, lt-ltb, le-ltb}
 use Rattle.std.proofs.lemmas.List.{get_or-set_same, get_or-set_other, set-get_or, length-set, length-replicate, get_or-replicate}
 use Rattle.plural_trace.specs.declared.entry.Entry.{Entry}
 use Rattle.plural_trace.specs.Least.{least}
 use Rattle.plural_trace.specs.Rules.{no_entry, entry_at, is_drawn, breaks_tickets, overlaps, is_busy}
 use Rattle.plural_trace.specs.Busy.{is_busy_at}
+use Rattle.plural_trace.specs.Legality.{Apart}
 use Rattle.plural_trace.proofs.LeastPlaces.{least_none, none_at_all}
 use Rattle.plural_trace.proofs.TicketLemmas.{fits_when, rise_when}
 
@@ -80,11 +81,8 @@ starts_each es i starts fine long l each k lk = elim (cases_eq k i) [
 
 -- ---- an entry among earlier ones
 
--- The one interval ends before the other starts.
-abbrev pub Apart : Entry → Entry → Type 0
-Apart e f = (e.end_at < f.start) ⊎ (f.end_at < e.start)
-
-apart_free : (e f : Entry) → Apart e f → overlaps e f ≡ false
+-- Intervals that are apart don't overlap.
+pub apart_free : (e f : Entry) → Apart e f → overlaps e f ≡ false
 apart_free e f (inl l) = rw (lt-ltb e.end_at f.start l) refl
 apart_free e f (inr l) = rw (lt-ltb f.end_at e.start l) (no (not (ltb e.end_at f.start)))
   where
@@ -95,7 +93,8 @@ apart_free e f (inr l) = rw (lt-ltb f.end_at e.start l) (no (not (ltb e.end_at f
 meet_busy : (e f : Entry) → f.start ≤ e.end_at → e.start ≤ f.end_at → overlaps e f ≡ true
 meet_busy e f a b = rw (le-ltb e.end_at f.start a, le-ltb f.end_at e.start b) refl
 
-busy_at : (f : Entry) (es : List Entry) (k i : ℕ) → k < i → i ≤ length es → (entry_at es k).core ≡ f.core → overlaps (entry_at es k) f ≡ true → is_busy f (take i es) ≡ true
+-- An interval that overlaps an earlier one of its core is busy.
+pub busy_at : (f : Entry) (es : List Entry) (k i : ℕ) → k < i → i ≤ length es → (entry_at es k).core ≡ f.core → overlaps (entry_at es k) f ≡ true → is_busy f (take i es) ≡ true
 busy_at f es k zero lt le c o = absurd (omega arith)
 busy_at f [] k (suc i) lt le c o = absurd (omega arith)
 busy_at f (e ∷ es) zero (suc i) lt le c o = rw (eq-eqb e.core f.core c, o) refl
@@ -105,7 +104,8 @@ busy_at f (e ∷ es) (suc k) (suc i) lt le c o = or_true (eqb e.core f.core && o
     or_true true h = refl
     or_true false h = h
 
-free_at : (f : Entry) (es : List Entry) (i : ℕ) → i ≤ length es → ((k : ℕ) → k < i → (entry_at es k).core ≡ f.core → overlaps (entry_at es k) f ≡ false) → is_busy f (take i es) ≡ false
+-- One that overlaps none of them is free.
+pub free_at : (f : Entry) (es : List Entry) (i : ℕ) → i ≤ length es → ((k : ℕ) → k < i → (entry_at es k).core ≡ f.core → overlaps (entry_at es k) f ≡ false) → is_busy f (take i es) ≡ false
 free_at f es zero le h = refl
 free_at f [] (suc i) le h = refl
 free_at f (e ∷ es) (suc i) le h = both (eqb e.core f.core) (overlaps e f) (λ c. h 0 (omega arith) (eqb-true e.core f.core c)) (free_at f es i (omega arith) (λ k lt c. h (suc k) (omega arith) c))

@@ -10,7 +10,7 @@ use Rattle.plural_trace.specs.declared.verdict.Verdict.TheVariants.{No}
 use Rattle.plural_trace.specs.Logs.{LogValue}
 use Rattle.plural_trace.specs.Least.{least, IsLeast}
 use Rattle.plural_trace.specs.Rules.{breaks_records, breaks_tickets, BreaksOrder, breaks_cores, breaks_rise, breaks_outcomes, breaks_words}
-use Rattle.plural_trace.specs.Verdicts.{Expected, Rule, Records, Tickets, Order, Cores, Rise, Outcomes, Words, rank, Fails, IsLegal, IsVerdict}
+use Rattle.plural_trace.specs.Verdicts.{Expected, Rule, Records, Tickets, Order, Cores, Rise, Outcomes, Words, rank, Fails, NoneFails, IsVerdict}
 use Rattle.plural_trace.proofs.LeastPlaces.{least_is}
 
 -- ---- rules by their numbers
@@ -99,8 +99,8 @@ failed x log last rule o at v before found some is = subst (IsVerdict x log last
     here : Finds x log last rule (Some at)
     here = subst (Finds x log last rule) some found
 
--- Where each rule is passed the verdict is yes.
-pub all_hold : (x : Expected) (log : LogValue) (last : List ℕ) → HoldBefore x log last 8 → IsLegal x log last
+-- Where each rule is passed none fails.
+pub all_hold : (x : Expected) (log : LogValue) (last : List ℕ) → HoldBefore x log last 8 → NoneFails x log last
 all_hold x log last h rule = h rule (low rule)
   where
     low : (rule : Rule) → rank rule < 8

@@ -5,6 +5,7 @@ pub mod CoreSweep
 pub mod RecordLookup
 pub mod RecordPlaces
 pub mod SerialResults
+pub mod Legality
 pub mod FirstFailure
 pub mod SerialEntries
 pub mod RecordOrder

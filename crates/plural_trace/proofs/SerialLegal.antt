@@ -1,26 +1,22 @@
 -- The log of a serial run is legal.
-use Rattle.std.proofs.Common.{◌≡◌, ℕ, zero, suc, ◌+◌, ◌-◌, ◌*◌, ◌<◌, ◌≤◌, Bool, true, false, not, ◌||◌, ◌&&◌, eqb, ltb, List, [], ◌∷◌, length, map, take, get_or, Some, refl, sym, ap, subst, ◌∙◌, arith, eqb-true, inl, inr}
-use Rattle.std.specs.Prelude.{slice_index}
+use Rattle.std.proofs.Common.{◌≡◌, ℕ, zero, suc, ◌+◌, ◌-◌, ◌*◌, ◌<◌, ◌≤◌, Bool, true, false, not, ◌||◌, ◌&&◌, eqb, ltb, List, [], ◌∷◌, length, take, get_or, Some, refl, sym, ap, subst, ◌∙◌, arith, eqb-true, inl, inr}
 use Rattle.std.specs.List.{list_any}
 use Rattle.std.specs.Option.{option_map_or}
 use Rattle.std.proofs.lemmas.Bool.{cases_lt, and_parts, eq-eqb, lt-ltb}
 use Rattle.std.proofs.lemmas.List.{length-map}
 use Rattle.std.proofs.lemmas.List.Folds.{list_any_none, list_any_at}
-use Rattle.plural_core.specs.declared.end.End.{End}
-use Rattle.plural_core.specs.declared.end.End.TheVariants as end
-use Rattle.plural_map.specs.declared.outcome.Outcome.{Outcome}
-use Rattle.plural_map.specs.declared.outcome.Outcome.TheVariants as outcome
 use Rattle.plural_map.specs.Value.{TaskValue, MapValue}
 use Rattle.plural_reach.specs.Chains.{Before}
 use Rattle.plural_serial.specs.declared.record_.Record.{Record}
 use Rattle.plural_serial.specs.Answer.{AnswerValue}
 use Rattle.plural_trace.specs.declared.entry.Entry.{Entry}
-use Rattle.plural_trace.specs.Rules.{no_entry, entry_at, is_of, record_for, is_same_end, is_same_record, is_recorded, has_instance, lacks_instance, breaks_records, is_drawn, breaks_tickets, BreaksOrder, is_busy, overlaps, breaks_cores, breaks_rise, is_same_outcome, breaks_outcomes, breaks_words}
+use Rattle.plural_trace.specs.Rules.{no_entry, entry_at, is_of, record_for, is_same_record, is_recorded, has_instance, lacks_instance, breaks_records, is_drawn, breaks_tickets, BreaksOrder, is_busy, overlaps, breaks_cores, breaks_rise}
 use Rattle.plural_trace.specs.SerialLog.{serial_entry, serial_entries, serial_log}
-use Rattle.plural_trace.specs.Verdicts.{Expected, expected_by, Records, Tickets, Order, Cores, Rise, Outcomes, Words, IsLegal}
+use Rattle.plural_trace.specs.Verdicts.{Expected, expected_by, Records, Tickets, Order, Cores, Rise, Outcomes, Words, IsLegal, NoneFails}
 use Rattle.plural_trace.specs.Laws.{SerialIsLegal}
 use Rattle.plural_trace.proofs.RecordLookup.{record_test, missing_test}
-use Rattle.plural_trace.proofs.SerialResults.{outcome_test, expected_same}
+use Rattle.plural_trace.proofs.Legality.{same_record, outcomes_fine, words_fine, legal_from_none}
+use Rattle.plural_trace.proofs.SerialResults.{expected_same}
 use Rattle.plural_trace.proofs.RecordOrder.{IsLater, InOrder, records_in_order}
 
 no_record : Record
@@ -48,16 +44,6 @@ long_take [] (suc i) l = absurd (omega arith)
 long_take (r ∷ rs) (suc i) l = let h = long_take rs i (omega arith) in omega arith
 
 -- ---- rule 1
-
-same_end : (e : End) → is_same_end e e ≡ true
-same_end end.Code0 = refl
-same_end end.Code1 = refl
-same_end (end.Trap cause pc) = rw (eq-eqb cause cause refl, eq-eqb pc pc refl) refl
-same_end end.Exhausted = refl
-
-same_record : (r : Record) → is_same_record r r ≡ true
-same_record r =
-    rw (eq-eqb r.t r.t refl, eq-eqb r.k r.k refl, same_end r.«end», eq-eqb r.instructions r.instructions refl, eq-eqb r.loads r.loads refl, eq-eqb r.misses r.misses refl, eq-eqb r.stores r.stores refl) refl
 
 of_itself : (r : Record) → is_of r.t r.k r ≡ true
 of_itself r = rw (eq-eqb r.t r.t refl, eq-eqb r.k r.k refl) refl
@@ -163,35 +149,21 @@ rise_fine rs (suc i) l =
     after_false true = refl
     after_false false = refl
 
--- ---- rules 6 and 7
-
-same_outcome : (o : Outcome) → is_same_outcome o o ≡ true
-same_outcome outcome.Ended0 = refl
-same_outcome outcome.Ended1 = refl
-same_outcome outcome.Skipped = refl
-same_outcome outcome.Failed = refl
-
-outcomes_fine : (os : List Outcome) (i : ℕ) → i < length os → breaks_outcomes (map (λ o. Some o) os) os i ≡ false
-outcomes_fine os i l = outcome_test os os i outcome.Ended0 outcome.Ended0 refl l ∙ ap not (same_outcome (get_or os i outcome.Ended0))
-
-words_fine : (ws : List ℕ) (i : ℕ) → breaks_words ws ws i ≡ false
-words_fine ws i = ap not (eq-eqb (slice_index ws i) (slice_index ws i) refl)
-
 -- ---- all seven
 
 breaks_not : {b : Bool} → b ≡ false → b ≡ true → ⊥
 breaks_not f t = let e : true ≡ false = sym t ∙ f in cc
 
-legal_by : (m : MapValue) (a : AnswerValue) → InOrder m.tasks a.records → IsLegal (expected_by m a) (serial_log a) a.image
-legal_by m a h Records i f = breaks_not (records_fine m.tasks a.records i h (let l = f.0 in omega (arith, serial_long 0 a.records))) f.1
-legal_by m a h Tickets i f = breaks_not (tickets_fine a.records i (let l = f.0 in omega (arith, serial_long 0 a.records))) f.1
-legal_by m a h Order i f = order_fine m.tasks a.records i h (let l = f.0 in omega (arith, serial_long 0 a.records)) f.1
-legal_by m a h Cores i f = breaks_not (cores_fine a.records i (let l = f.0 in omega (arith, serial_long 0 a.records))) f.1
-legal_by m a h Rise i f = breaks_not (rise_fine a.records i (let l = f.0 in omega (arith, serial_long 0 a.records))) f.1
-legal_by m a h Outcomes i f = breaks_not (outcomes_fine a.outcomes i (let l = f.0 in omega (arith, length-map a.outcomes (λ o. Some o)))) f.1
-legal_by m a h Words i f = breaks_not (words_fine a.image i) f.1
+none_fails : (m : MapValue) (a : AnswerValue) → InOrder m.tasks a.records → NoneFails (expected_by m a) (serial_log a) a.image
+none_fails m a h Records i f = breaks_not (records_fine m.tasks a.records i h (let l = f.0 in omega (arith, serial_long 0 a.records))) f.1
+none_fails m a h Tickets i f = breaks_not (tickets_fine a.records i (let l = f.0 in omega (arith, serial_long 0 a.records))) f.1
+none_fails m a h Order i f = order_fine m.tasks a.records i h (let l = f.0 in omega (arith, serial_long 0 a.records)) f.1
+none_fails m a h Cores i f = breaks_not (cores_fine a.records i (let l = f.0 in omega (arith, serial_long 0 a.records))) f.1
+none_fails m a h Rise i f = breaks_not (rise_fine a.records i (let l = f.0 in omega (arith, serial_long 0 a.records))) f.1
+none_fails m a h Outcomes i f = breaks_not (outcomes_fine a.outcomes i (let l = f.0 in omega (arith, length-map a.outcomes (λ o. Some o)))) f.1
+none_fails m a h Words i f = breaks_not (words_fine a.image i) f.1
 
 -- The log of a serial run is legal, with its last memory.
 pub serial_is_legal : SerialIsLegal
 serial_is_legal p m a limits run =
-    subst (λ (x : Expected). IsLegal x (serial_log a) a.image) (expected_same p m a run) (legal_by p.map a (rw run.records (records_in_order p m limits)))
+    subst (λ (x : Expected). IsLegal x (serial_log a) a.image) (expected_same p m a run) (legal_from_none (expected_by p.map a) (serial_log a) a.image (sym (length-map a.outcomes (λ o. Some o))) refl (none_fails p.map a (rw run.records (records_in_order p m limits))))

@@ -31,7 +31,8 @@ or_same true b c d c' d' h = refl
 or_same false true c d c' d' h = refl
 or_same false false c d c' d' h = let e = h refl refl in ap (λ x. x || d) e.0 ∙ ap (λ x. c' || x) e.1
 
-below_when : (a b : ℕ) → not (ltb a b) ≡ false → a < b
+-- A number that a test finds below another is below it.
+pub below_when : (a b : ℕ) → not (ltb a b) ≡ false → a < b
 below_when a b e = grind (arith, nat_tests)
 
 -- The test by marks is the test by looking back.

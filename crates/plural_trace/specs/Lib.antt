@@ -8,6 +8,7 @@ pub use Rattle.plural_reach.specs.Chains
 pub mod Logs
 pub mod Least
 pub mod Rules
+pub mod Legality
 pub mod Verdicts
 pub mod Ends
 pub mod Busy

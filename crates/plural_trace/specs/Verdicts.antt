@@ -9,6 +9,7 @@ use Rattle.plural_serial.specs.Answer.{AnswerValue, record_of}
 use Rattle.plural_trace.specs.declared.verdict.Verdict.{Verdict}
 use Rattle.plural_trace.specs.declared.verdict.Verdict.TheVariants.{Yes, No}
 use Rattle.plural_trace.specs.Logs.{LogValue}
+use Rattle.plural_trace.specs.Legality.{HasRecords, HasTickets, KeepsOrder, HasCores, Rises}
 use Rattle.plural_trace.specs.Rules.{breaks_records, breaks_tickets, BreaksOrder, breaks_cores, breaks_rise, breaks_outcomes, breaks_words}
 
 -- What a log is compared with: the tasks of the map; the records, the outcome of each task and the last memory of the
@@ -41,6 +42,17 @@ expected_by m a = record {
   memory = a.image;
 }
 
+-- The log is legal with this last memory: the five facts on its entries, its outcomes are the serial run's, and so is
+-- the last memory.
+pub record IsLegal (x : Expected) (log : LogValue) (last : List ℕ) : Type 0 where
+  pub records : HasRecords x.records log.entries
+  pub tickets : HasTickets log.entries
+  pub order : KeepsOrder x.tasks log.entries
+  pub cores : HasCores log.cores log.entries
+  pub rises : Rises log.entries
+  pub outcomes : map (λ o. Some o) log.outcomes ≡ x.outcomes
+  pub words : last ≡ x.memory
+
 -- The seven rules, in their order.
 pub data Rule : Type 0 where
   Records : Rule
@@ -72,9 +84,9 @@ Fails x log last Rise i = (i < length log.entries) × (breaks_rise log.entries i
 Fails x log last Outcomes i = (i < length x.outcomes) × (breaks_outcomes x.outcomes log.outcomes i ≡ true)
 Fails x log last Words i = (i < length x.memory) × (breaks_words x.memory last i ≡ true)
 
--- The log is legal: no rule fails at any place.
-abbrev pub IsLegal : Expected → LogValue → (last : List ℕ) → Type 0
-IsLegal x log last = (rule : Rule) (i : ℕ) → Fails x log last rule i → ⊥
+-- No rule fails at any place.
+abbrev pub NoneFails : Expected → LogValue → (last : List ℕ) → Type 0
+NoneFails x log last = (rule : Rule) (i : ℕ) → Fails x log last rule i → ⊥
 
 -- The first rule that fails has this number, and this is the least place at which it fails.
 pub record IsFirstFailure (x : Expected) (log : LogValue) (last : List ℕ) (number at : ℕ) : Type 0 where

@@ -1,6 +1,11 @@
 //! Laws over the definitions.
 
-ghost use Rattle.plural_trace.specs.Laws.{SerialFits, SerialIsLegal};
+ghost use Rattle.plural_trace.specs.Laws.{LegalExactly, SerialFits, SerialIsLegal};
+
+/// A log is legal exactly if no rule fails at any place.
+pub fn legal_exactly()
+    ensures { LegalExactly }
+{}
 
 /// What a serial run leaves fits a log of its map.
 pub fn serial_fits()

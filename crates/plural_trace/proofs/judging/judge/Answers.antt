@@ -1,8 +1,10 @@
 use Rattle.std.proofs.Common.{◌∙◌, List, Some, map, refl, sym, ap, length}
+use Rattle.std.proofs.lemmas.List.{length-map}
 use Rattle.plural_map.specs.declared.outcome.Outcome.{Outcome}
 use Rattle.plural_trace.specs.Verdicts.{Records, Tickets, Order, Cores, Rise, Outcomes, Words, expected_by}
 use Rattle.plural_trace.proofs.SerialResults.{entries_within}
 use Rattle.plural_trace.proofs.FirstFailure.{hold_first, passed, failed, all_hold, finds_records, finds_tickets, finds_order, finds_cores, finds_rise, finds_outcomes, finds_words}
+use Rattle.plural_trace.proofs.Legality.{legal_from_none}
 use Rattle.plural_trace.proofs.judging.judge.Goals as goal
 
 -- The call of `order_fault` has what it requires.
@@ -138,4 +140,5 @@ returns c =
     let h7 = passed x log last Outcomes 7 _ refl h6 r6 c.in_default-outcome_fault.is in
     let r7 = finds_words x log last _ _ c.image.ensures c.word_fault.ensures.least in
     let h8 = passed x log last Words 8 _ refl h7 r7 c.in_default-word_fault.is in
-    all_hold x log last h8
+    legal_from_none x log last
+    (c.requires.one_each ∙ sym (length-map c.args.answer.now.outcomes (λ o. Some o) ∙ c.requires.outcomes)) (c.requires.last ∙ sym c.requires.image) (all_hold x log last h8)
