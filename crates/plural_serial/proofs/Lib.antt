@@ -6,3 +6,4 @@ pub mod RanTasks
 pub mod Turns
 pub mod Stretches
 pub mod WholeLives
+pub mod Records

@@ -20,3 +20,4 @@ pub mod Few
 pub mod Instances
 pub mod Stretches
 pub mod Laws
+pub mod Records

@@ -1,6 +1,7 @@
 //! Laws over the definitions.
 ghost use Rattle.plural_serial.specs.Footprint.{Footprint};
 ghost use Rattle.plural_serial.specs.Few.{FewRecords};
+ghost use Rattle.plural_serial.specs.Records.{SerialRecords};
 ghost use Rattle.plural_serial.specs.Laws.{SerialChained, SerialInstances, WhoRan, SerialSettled, WholeLives};
 
 /// An instance of a program depends on the words that it may read alone, and stores where it may write.
@@ -39,4 +40,9 @@ pub fn serial_settled()
 /// the memory, and leaves the memory with its stores set in order.
 pub fn whole_lives()
     ensures { WholeLives }
+{}
+
+/// Each record of a serial run is of an instance of the map, with an end of a known kind and counts within the budget.
+pub fn serial_records()
+    ensures { SerialRecords }
 {}

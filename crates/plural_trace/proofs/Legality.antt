@@ -151,11 +151,7 @@ is_ticket x e = eqb e.start x || eqb e.end_at x
 drawn_list : (x : ℕ) (es : List Entry) → is_drawn x es ≡ list_any (is_ticket x) es
 unfolding is_ticket
 drawn_list x [] = refl
-drawn_list x (e ∷ es) = ap (λ b. eqb e.start x || eqb e.end_at x || b) (drawn_list x es) ∙ turned (eqb e.start x) (eqb e.end_at x) (list_any (is_ticket x) es)
-  where
-    turned : (a b c : Bool) → (a || b || c) ≡ ((a || b) || c)
-    turned true b c = refl
-    turned false b c = refl
+drawn_list x (e ∷ es) = ap (λ b. is_ticket x e || b) (drawn_list x es)
 
 ticket_parts : (x : ℕ) (e : Entry) → is_ticket x e ≡ false → (e.start ≢ x) × (e.end_at ≢ x)
 unfolding is_ticket

@@ -11,3 +11,5 @@ pub mod SerialEntries
 pub mod RecordOrder
 pub mod RecordNumbers
 pub mod SerialLegal
+pub mod SerialLog
+pub mod RecordWords

@@ -24,11 +24,13 @@ no_record = no_entry.rec
 
 -- ---- the entries of a serial log
 
-serial_long : (j : ℕ) (rs : List Record) → length (serial_entries j rs) ≡ length rs
+-- There is an entry for each record.
+pub serial_long : (j : ℕ) (rs : List Record) → length (serial_entries j rs) ≡ length rs
 serial_long j [] = refl
 serial_long j (r ∷ rs) = let h = serial_long (j + 1) rs in omega arith
 
-serial_at : (j : ℕ) (rs : List Record) (i : ℕ) → i < length rs → entry_at (serial_entries j rs) i ≡ serial_entry (j + i) (get_or rs i no_entry.rec)
+-- The entry at a place is that of the record there.
+pub serial_at : (j : ℕ) (rs : List Record) (i : ℕ) → i < length rs → entry_at (serial_entries j rs) i ≡ serial_entry (j + i) (get_or rs i no_entry.rec)
 serial_at j [] i l = absurd (omega arith)
 serial_at j (r ∷ rs) zero l = ap (λ n. serial_entry n r) (let z : j ≡ j + 0 = omega arith in z)
 serial_at j (r ∷ rs) (suc i) l = serial_at (j + 1) rs i (omega arith) ∙ ap (λ n. serial_entry n (get_or rs i no_entry.rec)) (let z : j + 1 + i ≡ j + suc i = omega arith in z)

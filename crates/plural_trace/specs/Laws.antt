@@ -3,10 +3,10 @@ use Rattle.std.specs.Prelude.{◌≡◌, ℕ, ◌<◌, ◌≤◌, ◌↔◌, Lis
 use Rattle.std.specs.List.{All}
 use Rattle.plural_map.specs.Limits.{IsMap}
 use Rattle.plural_serial.specs.declared.record_.Record.{Record}
-use Rattle.plural_serial.specs.Program.{ProgramValue}
+use Rattle.plural_serial.specs.Program.{ProgramValue, IsProgram}
 use Rattle.plural_serial.specs.Answer.{AnswerValue, IsSerial}
 use Rattle.plural_trace.specs.SerialLog.{serial_log}
-use Rattle.plural_trace.specs.Logs.{LogValue}
+use Rattle.plural_trace.specs.Logs.{LogValue, IsLog}
 use Rattle.plural_trace.specs.Verdicts.{Expected, expected_of, IsLegal, NoneFails}
 
 -- A serial run over a map has at most 65,536 records, each of a task of the map, and one outcome for each task.
@@ -25,3 +25,8 @@ LegalExactly = (x : Expected) (log : LogValue) (last : List ℕ) → length log.
 abbrev pub SerialIsLegal : Type 0
 SerialIsLegal = (p : ProgramValue) (m : List ℕ) (a : AnswerValue) → IsMap p.map → IsSerial p m a
     → IsLegal (expected_of p m) (serial_log a) a.image
+
+-- It is a log of the map, as can be printed.
+abbrev pub SerialIsLog : Type 0
+SerialIsLog = (p : ProgramValue) (m : List ℕ) (a : AnswerValue) → IsProgram p → IsMap p.map → IsSerial p m a
+    → IsLog p.map (serial_log a)

@@ -6,6 +6,7 @@ pub use Rattle.plural_serial.specs.Serial
 pub use Rattle.plural_reach.specs.Tables
 pub use Rattle.plural_reach.specs.Chains
 pub mod Logs
+pub mod RecordWords
 pub mod Least
 pub mod Rules
 pub mod Legality

@@ -1,6 +1,7 @@
 //! Laws over the definitions.
 
-ghost use Rattle.plural_trace.specs.Laws.{LegalExactly, SerialFits, SerialIsLegal};
+ghost use Rattle.plural_trace.specs.Laws.{LegalExactly, SerialFits, SerialIsLegal, SerialIsLog};
+ghost use Rattle.plural_trace.specs.RecordWords.{RecordRoundTrip};
 
 /// A log is legal exactly if no rule fails at any place.
 pub fn legal_exactly()
@@ -15,4 +16,14 @@ pub fn serial_fits()
 /// The log of a serial run is legal.
 pub fn serial_is_legal()
     ensures { SerialIsLegal }
+{}
+
+/// The log of a serial run is one that can be printed.
+pub fn serial_is_log()
+    ensures { SerialIsLog }
+{}
+
+/// The record of an instance as words tells the record.
+pub fn record_round_trip()
+    ensures { RecordRoundTrip }
 {}
