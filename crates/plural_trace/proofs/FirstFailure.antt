@@ -10,7 +10,7 @@ use Rattle.plural_trace.specs.declared.verdict.Verdict.TheVariants.{No}
 use Rattle.plural_trace.specs.Logs.{LogValue}
 use Rattle.plural_trace.specs.Least.{least, IsLeast}
 use Rattle.plural_trace.specs.Rules.{breaks_records, breaks_tickets, BreaksOrder, breaks_cores, breaks_rise, breaks_outcomes, breaks_words}
-use Rattle.plural_trace.specs.Verdicts.{Expected, Rule, Records, Tickets, Order, Cores, Rise, Outcomes, Words, rank, Fails, NoneFails, IsVerdict}
+use Rattle.plural_trace.specs.Verdicts.{Expected, Rule, Records, Tickets, Order, Cores, Rise, Outcomes, Words, rank, Fails, NoneFails, HoldBefore, IsVerdict}
 use Rattle.plural_trace.proofs.LeastPlaces.{least_is}
 
 -- ---- rules by their numbers
@@ -42,10 +42,6 @@ same_rule r s e = sym (back r) ∙ ap numbered e ∙ back s
 -- The rule fails nowhere.
 abbrev Holds : Expected → LogValue → (last : List ℕ) → Rule → Type 0
 Holds x log last rule = (i : ℕ) → Fails x log last rule i → ⊥
-
--- The rules before the one of this number fail nowhere.
-abbrev pub HoldBefore : Expected → LogValue → (last : List ℕ) → (number : ℕ) → Type 0
-HoldBefore x log last number = (rule : Rule) → rank rule < number → Holds x log last rule
 
 -- No rule is before the first.
 pub hold_first : (x : Expected) (log : LogValue) (last : List ℕ) → HoldBefore x log last 1

@@ -1,7 +1,7 @@
 -- The latest ends decide what starts too early.
-use Rattle.std.proofs.Common.{◌≡◌, ℕ, zero, suc, ◌+◌, ◌<◌, ◌≤◌, max, Bool, true, false, not, ◌||◌, ◌&&◌, eqb, ltb, cond, List, [], ◌∷◌, length, take, set, get_or, refl, sym, ap, ◌∙◌, subst, arith, eq-eqb, eqb-true, ⊎_elim}
+use Rattle.std.proofs.Common.{◌≡◌, ℕ, zero, suc, ◌+◌, ◌<◌, ◌≤◌, max, Bool, true, false, not, ◌||◌, ◌&&◌, eqb, ltb, cond, List, [], ◌∷◌, length, take, set, get_or, refl, sym, ap, ◌∙◌, subst, arith, eq-eqb, eqb-true, inl, inr, ⊎_elim}
 use Rattle.std.specs.Prelude.{All}
-use Rattle.std.proofs.lemmas.Bool.{cases_Bool, lt-ltb, le-ltb}
+use Rattle.std.proofs.lemmas.Bool.{cases_Bool, cases_lt, lt-ltb, le-ltb}
 use Rattle.std.proofs.lemmas.Bool.Decides.{nat_tests}
 use Rattle.std.proofs.lemmas.List.{get_or-set_same, get_or-set_other}
 use Rattle.std.proofs.lemmas.List.Elements.{All-head, All-tail}
@@ -12,7 +12,7 @@ use Rattle.plural_trace.specs.Rules.{no_entry, entry_at, BreaksOrder, breaks_cor
 use Rattle.plural_trace.specs.Least.{least}
 use Rattle.plural_trace.proofs.LeastPlaces.{least_same}
 use Rattle.plural_trace.specs.Busy.{is_busy_at}
-use Rattle.plural_trace.specs.Ends.{latest_end, latest_before}
+use Rattle.plural_trace.specs.Ends.{latest_end, latest_before, AreLeastStarts}
 use Rattle.plural_trace.specs.declared.entry.Entry.{Entry}
 
 -- By a test of which tasks come before which: one of the entries is of a task before task u, and its end isn't below
@@ -154,7 +154,7 @@ bound_test tasks es r ends bounds i h l =
     ∙ late_test (says_before r) e.rec.t e.start es (length tasks) h.own
 
 -- An entry that starts below its task's bound breaks the rule.
-pub order_breaks : (tasks : List TaskValue) (es : List Entry) (r : Reach) (ends bounds : List ℕ) (i : ℕ) → AreBounds tasks es r ends bounds → i < length es
+order_breaks : (tasks : List TaskValue) (es : List Entry) (r : Reach) (ends bounds : List ℕ) (i : ℕ) → AreBounds tasks es r ends bounds → i < length es
     → (entry_at es i).start < get_or bounds (entry_at es i).rec.t 0 → BreaksOrder tasks es i
 order_breaks tasks es r ends bounds i h l low =
     let e = entry_at es i in
@@ -162,13 +162,23 @@ order_breaks tasks es r ends bounds i h l low =
     record { late = f.at; there = f.there; before = (h.table.exact (entry_at es f.at).rec.t e.rec.t (h.own i no_entry l)).0 f.first; ends = f.ends }
 
 -- An entry that doesn't start below its task's bound keeps the rule.
-pub order_kept : (tasks : List TaskValue) (es : List Entry) (r : Reach) (ends bounds : List ℕ) (i : ℕ) → AreBounds tasks es r ends bounds → i < length es
+order_kept : (tasks : List TaskValue) (es : List Entry) (r : Reach) (ends bounds : List ℕ) (i : ℕ) → AreBounds tasks es r ends bounds → i < length es
     → get_or bounds (entry_at es i).rec.t 0 ≤ (entry_at es i).start → BreaksOrder tasks es i → ⊥
 order_kept tasks es r ends bounds i h l high b =
     let e = entry_at es i in
     let late = late_there (says_before r) e.rec.t e.start es b.late b.there ((h.table.exact (entry_at es b.late).rec.t e.rec.t (h.own i no_entry l)).1 b.before) b.ends in
     let f : true ≡ false = sym late ∙ sym (bound_test tasks es r ends bounds i h l) ∙ le-ltb e.start (get_or bounds e.rec.t 0) high in
     cc
+
+-- So the rule is broken exactly below the bounds.
+pub bounds_exact : (tasks : List TaskValue) (es : List Entry) (r : Reach) (ends bounds : List ℕ) → AreBounds tasks es r ends bounds → AreLeastStarts tasks es bounds
+bounds_exact tasks es r ends bounds h i l = (
+  order_breaks tasks es r ends bounds i h l,
+  (λ b. elim (cases_lt (entry_at es i).start (get_or bounds (entry_at es i).rec.t 0)) [
+    | inl lt ↦ lt
+    | inr le ↦ absurd (order_kept tasks es r ends bounds i h l le b)
+  ]),
+)
 
 -- Where each core is one, the rule on cores is the one on intervals.
 pub cores_below : (cores : ℕ) (es : List Entry) (m : ℕ) → ((k : ℕ) (d : Entry) → k < m → (get_or es k d).core < cores) → least (breaks_cores cores es) m ≡ least (is_busy_at es) m

@@ -1,6 +1,8 @@
 -- The latest end of a task's entries, plus one; 0 where it has none.
-use Rattle.std.specs.Prelude.{ℕ, ◌≡◌, ◌<◌, zero, suc, ◌+◌, max, ◌==◌, Bool, if◌then◌else◌, List, [], ◌∷◌, length, slice_index}
+use Rattle.std.specs.Prelude.{ℕ, ◌≡◌, ◌<◌, ◌↔◌, zero, suc, ◌+◌, max, ◌==◌, Bool, if◌then◌else◌, List, [], ◌∷◌, length, slice_index}
+use Rattle.plural_map.specs.Value.{TaskValue}
 use Rattle.plural_trace.specs.declared.entry.Entry.{Entry}
+use Rattle.plural_trace.specs.Rules.{entry_at, BreaksOrder}
 
 -- The latest end, plus one, of the entries of task t; 0 where there is none.
 abbrev pub latest_end : ℕ → List Entry → ℕ
@@ -16,3 +18,8 @@ latest_before before u ends (suc n) = max (latest_before before u ends n) (if be
 abbrev pub AreLatestBefore : (ℕ → ℕ → Bool) → (ends bounds : List ℕ) → Type 0
 AreLatestBefore before ends bounds = (u : ℕ) → u < length ends
     → slice_index bounds u ≡ latest_before before u ends (length ends)
+
+-- An entry breaks the rule on the order of tasks exactly if it starts below the number of its task.
+abbrev pub AreLeastStarts : List TaskValue → List Entry → (least : List ℕ) → Type 0
+AreLeastStarts tasks es least = (i : ℕ) → i < length es
+    → ((entry_at es i).start < slice_index least (entry_at es i).rec.t) ↔ BreaksOrder tasks es i

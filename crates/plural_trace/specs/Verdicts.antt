@@ -33,14 +33,18 @@ expected_of p m = record {
   memory = (serial_of p m).memory;
 }
 
--- The same by what the serial run of a map left.
-abbrev pub expected_by : MapValue → AnswerValue → Expected
-expected_by m a = record {
-  tasks = m.tasks;
+-- The same by what the serial run of a map with these tasks left.
+abbrev pub expected_in : List TaskValue → AnswerValue → Expected
+expected_in tasks a = record {
+  tasks = tasks;
   records = a.records;
   outcomes = map (λ o. Some o) a.outcomes;
   memory = a.image;
 }
+
+-- The same by a map.
+abbrev pub expected_by : MapValue → AnswerValue → Expected
+expected_by m a = expected_in m.tasks a
 
 -- The log is legal with this last memory: the five facts on its entries, its outcomes are the serial run's, and so is
 -- the last memory.
@@ -87,6 +91,10 @@ Fails x log last Words i = (i < length x.memory) × (breaks_words x.memory last 
 -- No rule fails at any place.
 abbrev pub NoneFails : Expected → LogValue → (last : List ℕ) → Type 0
 NoneFails x log last = (rule : Rule) (i : ℕ) → Fails x log last rule i → ⊥
+
+-- The rules before the one of this number fail nowhere.
+abbrev pub HoldBefore : Expected → LogValue → (last : List ℕ) → (number : ℕ) → Type 0
+HoldBefore x log last number = (rule : Rule) → rank rule < number → (i : ℕ) → Fails x log last rule i → ⊥
 
 -- The first rule that fails has this number, and this is the least place at which it fails.
 pub record IsFirstFailure (x : Expected) (log : LogValue) (last : List ℕ) (number at : ℕ) : Type 0 where

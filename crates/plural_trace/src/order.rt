@@ -4,7 +4,7 @@ ghost use Rattle.plural_reach.specs.Tables.{says_before};
 ghost use Rattle.plural_trace.specs.declared.entry.Entry.{Entry};
 ghost use Rattle.plural_trace.specs.Least.{IsLeast};
 ghost use Rattle.plural_trace.specs.Rules.{BreaksOrder};
-ghost use Rattle.plural_trace.specs.Ends.{latest_end, latest_before, AreLatestBefore};
+ghost use Rattle.plural_trace.specs.Ends.{latest_end, latest_before, AreLatestBefore, AreLeastStarts};
 
 use crate::entry::Entry;
 use plural_base::Memory;
@@ -55,6 +55,16 @@ fn bounds(alloc: Global, reach: &Reach, ends: &[u64]) -> Result<Vec<u64>, Memory
     Ok(bounds)
 }
 
+/// Of each task the least start that its entries may have.
+fn least_starts(alloc: Global, entries: &[Entry], map: &Map) -> Result<Vec<u64>, Memory>
+    requires tasks { All (λ (e : Entry). e.rec.t < length map.now.tasks) entries.now }
+    ensures long { IfOk result (λ v. length v.items ≡ length map.now.tasks) }
+    ensures exact { IfOk result (λ v. AreLeastStarts map.now.tasks entries.now v.items) }
+{
+    let ends = latest_ends(alloc, entries, map.tasks().len())?;
+    bounds(alloc, &reach(map), &ends)
+}
+
 /// The first entry that doesn't start after each end of the tasks that come before its own.
 pub(crate) fn order_fault(
     alloc: Global,
@@ -65,10 +75,9 @@ pub(crate) fn order_fault(
     ensures least { IfOk result (λ o. IsLeast (BreaksOrder map.now.tasks entries.now) (length entries.now) o) }
     ensures within { IfOk result (λ o. IfSome o (λ i. i < length entries.now)) }
 {
-    let ends = latest_ends(alloc, entries, map.tasks().len())?;
-    let bounds = bounds(alloc, &reach(map), &ends)?;
+    let least = least_starts(alloc, entries, map)?;
     for i in 0..entries.len() {
-        if (entries[i].start as u64) < bounds[entries[i].rec.t as usize] {
+        if (entries[i].start as u64) < least[entries[i].rec.t as usize] {
             return Ok(Some(i));
         }
     }
