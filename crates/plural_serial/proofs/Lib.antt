@@ -1,8 +1,8 @@
 pub mod Few
 pub mod Footprint
 pub mod Runs
-pub mod DoneTasks
-pub mod RanTasks
+pub mod TaskOutcomes
+pub mod RunTasks
 pub mod Turns
 pub mod Stretches
 pub mod WholeLives

@@ -18,6 +18,7 @@ pub record IsChained (p : ProgramValue) (m : List ℕ) : Type 0 where
   pub starts : All (λ (s : Started). length s.start ≡ length m) (serial_of p m).ran
   pub last : length (serial_of p m).memory ≡ length m
 
+-- So it is of every program and every opening image.
 abbrev pub SerialChained : Type 0
 SerialChained = (p : ProgramValue) (m : List ℕ) → IsChained p m
 
@@ -39,6 +40,7 @@ pub record IsSettled (p : ProgramValue) (m : List ℕ) : Type 0 where
   pub one_each : length (serial_of p m).outcomes ≡ length p.map.tasks
   pub decided : (t : ℕ) → t < length p.map.tasks → IsDecided p m t
 
+-- So it is if the map is within its limits.
 abbrev pub SerialSettled : Type 0
 SerialSettled = (p : ProgramValue) (m : List ℕ) → IsMap p.map → IsSettled p m
 

@@ -19,7 +19,8 @@ use Rattle.plural_trace.specs.Logs.{LogValue}
 use Rattle.plural_trace.specs.Rules.{no_entry, entry_at, is_of, record_for, is_same_end, is_same_record, is_recorded, has_instance, lacks_instance, breaks_records, is_drawn, breaks_tickets, BreaksOrder, is_busy, overlaps, breaks_cores, breaks_rise, is_same_outcome, is_outcome, breaks_outcomes, breaks_words}
 use Rattle.plural_trace.specs.Legality.{IsOther, HasEntry, HasRecords, OtherTickets, HasTickets, KeepsOrder, Apart, HasCores, Rises}
 use Rattle.plural_trace.specs.Verdicts.{Expected, Records, Tickets, Order, Cores, Rise, Outcomes, Words, NoneFails, IsLegal}
-use Rattle.plural_trace.specs.Laws.{LegalExactly}
+use Rattle.plural_trace.specs.Laws.{LegalExactly, YesExactly}
+use Rattle.plural_trace.specs.declared.verdict.Verdict.TheVariants.{Yes, No}
 use Rattle.plural_trace.proofs.RecordLookup.{record_test, missing_test}
 use Rattle.plural_trace.proofs.SerialResults.{outcome_test}
 use Rattle.plural_trace.proofs.TicketLemmas.{below_when, fits_when}
@@ -335,3 +336,8 @@ none_from_legal x log last h Words i f = breaks_not (subst (λ (ws : List ℕ). 
 -- A log is legal exactly if no rule fails.
 pub legal_exactly : LegalExactly
 legal_exactly x log last o w = (none_from_legal x log last, legal_from_none x log last o w)
+
+-- A verdict is yes exactly if the log is legal.
+pub yes_exactly : YesExactly
+yes_exactly x log last Yes h = ((λ e. h), (λ l. refl))
+yes_exactly x log last (No number at) h = ((λ e. absurd cc), (λ l. absurd (none_from_legal x log last l h.rule at h.fails)))

@@ -10,7 +10,7 @@ use Rattle.plural_serial.specs.Program.{ProgramValue}
 use Rattle.plural_serial.specs.Serial.{serial_of}
 use Rattle.plural_serial.specs.Answer.{AnswerValue, IsSerial, record_of}
 use Rattle.plural_serial.proofs.Few.{few_records}
-use Rattle.plural_serial.proofs.RanTasks.{ran_within}
+use Rattle.plural_serial.proofs.RunTasks.{ran_within}
 use Rattle.plural_serial.proofs.Stretches.{outcomes_each}
 use Rattle.plural_trace.specs.declared.entry.Entry.{Entry}
 use Rattle.plural_trace.specs.Laws.{SerialFits}

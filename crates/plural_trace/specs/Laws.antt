@@ -7,7 +7,9 @@ use Rattle.plural_serial.specs.Program.{ProgramValue, IsProgram}
 use Rattle.plural_serial.specs.Answer.{AnswerValue, IsSerial}
 use Rattle.plural_trace.specs.SerialLog.{serial_log}
 use Rattle.plural_trace.specs.Logs.{LogValue, IsLog}
-use Rattle.plural_trace.specs.Verdicts.{Expected, expected_of, IsLegal, NoneFails}
+use Rattle.plural_trace.specs.declared.verdict.Verdict.{Verdict}
+use Rattle.plural_trace.specs.declared.verdict.Verdict.TheVariants.{Yes}
+use Rattle.plural_trace.specs.Verdicts.{Expected, expected_of, IsLegal, NoneFails, IsVerdict}
 
 -- A serial run over a map has at most 65,536 records, each of a task of the map, and one outcome for each task.
 abbrev pub SerialFits : Type 0
@@ -20,6 +22,11 @@ SerialFits = (p : ProgramValue) (m : List ℕ) (a : AnswerValue) → IsMap p.map
 abbrev pub LegalExactly : Type 0
 LegalExactly = (x : Expected) (log : LogValue) (last : List ℕ) → length log.outcomes ≡ length x.outcomes
     → length last ≡ length x.memory → IsLegal x log last ↔ NoneFails x log last
+
+-- A verdict is yes exactly if the log is legal.
+abbrev pub YesExactly : Type 0
+YesExactly = (x : Expected) (log : LogValue) (last : List ℕ) (v : Verdict) → IsVerdict x log last v
+    → (v ≡ Yes) ↔ IsLegal x log last
 
 -- The log of a serial run of a program over a map is legal, with its last memory.
 abbrev pub SerialIsLegal : Type 0

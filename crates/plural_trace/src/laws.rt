@@ -1,11 +1,16 @@
 //! Laws over the definitions.
 
-ghost use Rattle.plural_trace.specs.Laws.{LegalExactly, SerialFits, SerialIsLegal, SerialIsLog};
+ghost use Rattle.plural_trace.specs.Laws.{LegalExactly, YesExactly, SerialFits, SerialIsLegal, SerialIsLog};
 ghost use Rattle.plural_trace.specs.RecordWords.{RecordRoundTrip};
 
 /// A log is legal exactly if no rule fails at any place.
 pub fn legal_exactly()
     ensures { LegalExactly }
+{}
+
+/// A verdict is yes exactly if the log is legal.
+pub fn yes_exactly()
+    ensures { YesExactly }
 {}
 
 /// What a serial run leaves fits a log of its map.

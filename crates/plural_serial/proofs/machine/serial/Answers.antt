@@ -5,11 +5,11 @@ use Rattle.plural_map.specs.Limits.{IsMap}
 use Rattle.plural_serial.specs.Serial.{opening}
 use Rattle.plural_serial.proofs.Few.{few_so_far}
 use Rattle.plural_serial.proofs.Runs.{so_far_more}
-use Rattle.plural_serial.proofs.DoneTasks.{next_within, predecessors_there, more_done, all_settled}
+use Rattle.plural_serial.proofs.TaskOutcomes.{next_within, predecessors_there, more_done, all_settled}
 use Rattle.std.proofs.lemmas.List.Elements.{All-same}
 use Rattle.plural_serial.specs.Answer.{AnswerValue}
 use Rattle.plural_serial.specs.declared.record_.Record.{Record}
-use Rattle.plural_serial.proofs.RanTasks.{records_within}
+use Rattle.plural_serial.proofs.RunTasks.{records_within}
 use Rattle.plural_serial.proofs.machine.serial.Goals as goal
 
 -- The call of `task_outcome` has what its clause `t` requires.

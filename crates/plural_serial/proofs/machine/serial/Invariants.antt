@@ -2,7 +2,7 @@ use Rattle.std.proofs.Common.{◌≡◌, length, take}
 use Rattle.plural_serial.specs.Cached.{IsShaped}
 use Rattle.plural_serial.specs.Serial.{opening}
 use Rattle.plural_serial.proofs.Runs.{IsSoFar}
-use Rattle.plural_serial.proofs.DoneTasks.{HasOutcomes}
+use Rattle.plural_serial.proofs.TaskOutcomes.{HasOutcomes}
 use Rattle.plural_serial.proofs.machine.serial.Given as goal
 
 -- The first tasks of the order are decided and run.
