@@ -1,0 +1,6 @@
+use Rattle.plural_order.proofs.WorldLaws.{value_at_end}
+use Rattle.plural_order.proofs.laws.value_at_end.Goals as goal
+
+-- The answer meets the contract.
+pub returns : goal.returns
+returns g c = value_at_end
