@@ -1,7 +1,7 @@
 -- The last value of a word by the instances that are done.
 use Rattle.std.proofs.Common.{◌≡◌, ℕ, Bool, true, false, ◌&&◌, cond, List, [], ◌∷◌, ◌++◌, get_or, refl, sym, ap, ◌∙◌, subst, ⊎_elim}
 use Rattle.std.proofs.lemmas.Bool.{both_ways, cases_Bool, and_left, and_right, or_cases, or_left, or_right}
-use Rattle.plural_order.specs.Instances.{Instance, same, is_in}
+use Rattle.plural_serial.specs.Instances.{Inst as Instance, same, is_in}
 use Rattle.plural_order.specs.World.{World, after, run, start_at, leaves, Ordered, Runs, IsWorld, last_value}
 use Rattle.plural_order.proofs.Instances.{same_is, in_append, in_first, in_middle, append_one}
 use Rattle.plural_order.proofs.Runs.{run_append, start_here, after_it, before_it, after_else, leaves_is}
@@ -57,11 +57,10 @@ start_value w ok a past i rest e =
     ap (λ (l : List ℕ). get_or l a 0) (start_here w past i rest ok.ordered e)
     ∙ serial_value w ok (leaves w) a (λ p j r s. leaves_is w ok p j r a s) past (i ∷ rest) e
 
--- An instance under way: it stands in the serial order, and isn't done; what is before it is, and nothing after it.
+-- An instance in the serial order, while nothing after it is done.
 module _ {E : Type 0} (w : World E) (ok : IsWorld w) (left : Instance → ℕ → ℕ) (done : Instance → Bool)
     (past : List Instance) (i : Instance) (rest : List Instance) (is : w.ran ≡ past ++ i ∷ rest)
-    (past_done : (j : Instance) → Runs w j → w.before j.0 i.0 ≡ true → done j ≡ true)
-    (none_after : (j : Instance) → Runs w j → w.before i.0 j.0 ≡ true → done j ≡ false) (not_yet : done i ≡ false) where
+    (none_after : (j : Instance) → Runs w j → w.before i.0 j.0 ≡ true → done j ≡ false) where
   in_past : (j : Instance) → is_in j past ≡ true → Runs w j
   in_past j m = ap (is_in j) is ∙ (in_append j past (i ∷ rest) ∙ or_left (is_in j past) (is_in j (i ∷ rest)) m)
 
@@ -74,15 +73,7 @@ module _ {E : Type 0} (w : World E) (ok : IsWorld w) (left : Instance → ℕ �
   split_ordered : Ordered w (past ++ i ∷ rest)
   split_ordered = subst (λ (l : List Instance). Ordered w l) is ok.ordered
 
-  -- a writer of a word that i may read is done if it is earlier, and isn't if it is later
-  earlier_done : (a : ℕ) → w.reads i a ≡ true → (j : Instance) → is_in j past ≡ true → w.writes j a ≡ true → done j ≡ true
-  earlier_done a reads j m writes =
-      let o = before_it w past i rest split_ordered j m in
-      ⊎_elim
-      (λ t. past_done j (in_past j m) t)
-      (λ e. absurd (both_ways (w.reads i a) (ok.accepted j i a (in_past j m) here o.1 e o.0 writes) reads))
-      (cases_Bool (w.before j.0 i.0))
-
+  -- a later writer of a word that it may read isn't done
   later_undone : (a : ℕ) → w.reads i a ≡ true → (j : Instance) → is_in j rest ≡ true → w.writes j a ≡ true → done j ≡ false
   later_undone a reads j m writes =
       let o = after_it w past i rest split_ordered j m in
@@ -91,35 +82,42 @@ module _ {E : Type 0} (w : World E) (ok : IsWorld w) (left : Instance → ℕ �
       (λ e. absurd (both_ways (w.reads i a) (ok.accepted j i a (in_rest j m) here o.1 o.0 e writes) reads))
       (cases_Bool (w.before i.0 j.0))
 
-  -- if two tests agree at the writers of a word they agree with its writers
-  with_writes : (f g : Instance → Bool) (a : ℕ) (j : Instance) → (w.writes j a ≡ true → f j ≡ g j) → (f j && w.writes j a) ≡ (g j && w.writes j a)
-  with_writes f g a j h = ⊎_elim
-      (λ t. ap (λ b. b && w.writes j a) (h t))
-      (λ e. and_right (f j) (w.writes j a) e ∙ sym (and_right (g j) (w.writes j a) e))
-      (cases_Bool (w.writes j a))
-
   -- a test that fails at the writers of a word fails with its writers
-  no_writes : (f : Instance → Bool) (a : ℕ) (j : Instance) → (w.writes j a ≡ true → f j ≡ false) → (f j && w.writes j a) ≡ false
-  no_writes f a j h = ⊎_elim (λ t. and_left (f j) (w.writes j a) (h t)) (λ e. and_right (f j) (w.writes j a) e) (cases_Bool (w.writes j a))
+  no_writes : (a : ℕ) (j : Instance) → (w.writes j a ≡ true → done j ≡ false) → (done j && w.writes j a) ≡ false
+  no_writes a j h = ⊎_elim (λ t. and_left (done j) (w.writes j a) (h t)) (λ e. and_right (done j) (w.writes j a) e) (cases_Bool (w.writes j a))
 
-  -- The last value of a word that it may read is that by all before it.
-  pub last_before : (a x : ℕ) → w.reads i a ≡ true → last_value w left a done x w.ran ≡ last_value w left a all_done x past
-  last_before a x reads =
+  -- Once it is done, the last value of a word that it may write is its own.
+  pub last_own : done i ≡ true → (a x : ℕ) → w.writes i a ≡ true → last_value w left a done x w.ran ≡ left i a
+  last_own own a x writes =
+      let before = last_value w left a done x past in
       ap (last_value w left a done x) is ∙ (last_append w left a done x past (i ∷ rest)
-      ∙ (last_none w left a done (last_value w left a done x past) (i ∷ rest)
-      (λ j m. ⊎_elim
-      (λ t. and_left (done j) (w.writes j a) (ap done (same_is j i t) ∙ not_yet))
-      (λ r. no_writes done a j (later_undone a reads j r))
-      (or_cases (same j i) (is_in j rest) m))
-      ∙ last_same w left a done all_done x past (λ j m. with_writes done all_done a j (earlier_done a reads j m))))
+      ∙ (ap (λ b. last_value w left a done (cond (b && w.writes i a) (left i a) before) rest) own
+      ∙ (ap (λ b. last_value w left a done (cond b (left i a) before) rest) writes
+      ∙ last_none w left a done (left i a) rest (λ j m. no_writes a j (later_undone a (ok.read_too i a writes) j m)))))
 
-  -- Once it is done too, the last value of a word that it may write is its own.
-  pub last_own : (done_then : Instance → Bool) (a x : ℕ) → done_then i ≡ true → ((j : Instance) → same j i ≡ false → done_then j ≡ done j) → w.writes i a ≡ true → last_value w left a done_then x w.ran ≡ left i a
-  last_own done_then a x own others writes =
-      let before = last_value w left a done_then x past in
-      ap (last_value w left a done_then x) is ∙ (last_append w left a done_then x past (i ∷ rest)
-      ∙ (ap (λ b. last_value w left a done_then (cond (b && w.writes i a) (left i a) before) rest) own
-      ∙ (ap (λ b. last_value w left a done_then (cond b (left i a) before) rest) writes
-      ∙ last_none w left a done_then (left i a) rest
-      (λ j m. no_writes done_then a j
-      (λ t. others j (after_it w past i rest split_ordered j m).1 ∙ later_undone a (ok.read_too i a writes) j m t)))))
+  -- While it is under way, and those of the tasks before its own are done.
+  module _ (past_done : (j : Instance) → Runs w j → w.before j.0 i.0 ≡ true → done j ≡ true) (not_yet : done i ≡ false) where
+    earlier_done : (a : ℕ) → w.reads i a ≡ true → (j : Instance) → is_in j past ≡ true → w.writes j a ≡ true → done j ≡ true
+    earlier_done a reads j m writes =
+        let o = before_it w past i rest split_ordered j m in
+        ⊎_elim
+        (λ t. past_done j (in_past j m) t)
+        (λ e. absurd (both_ways (w.reads i a) (ok.accepted j i a (in_past j m) here o.1 e o.0 writes) reads))
+        (cases_Bool (w.before j.0 i.0))
+
+    all_writes : (a : ℕ) (j : Instance) → (w.writes j a ≡ true → done j ≡ true) → (done j && w.writes j a) ≡ w.writes j a
+    all_writes a j h = ⊎_elim
+        (λ t. ap (λ b. b && w.writes j a) (h t))
+        (λ e. and_right (done j) (w.writes j a) e ∙ sym e)
+        (cases_Bool (w.writes j a))
+
+    -- The last value of a word that it may read is that by all before it.
+    pub last_before : (a x : ℕ) → w.reads i a ≡ true → last_value w left a done x w.ran ≡ last_value w left a all_done x past
+    last_before a x reads =
+        ap (last_value w left a done x) is ∙ (last_append w left a done x past (i ∷ rest)
+        ∙ (last_none w left a done (last_value w left a done x past) (i ∷ rest)
+        (λ j m. ⊎_elim
+        (λ t. and_left (done j) (w.writes j a) (ap done (same_is j i t) ∙ not_yet))
+        (λ r. no_writes a j (later_undone a reads j r))
+        (or_cases (same j i) (is_in j rest) m))
+        ∙ last_same w left a done all_done x past (λ j m. all_writes a j (earlier_done a reads j m))))

@@ -4,3 +4,11 @@ pub mod Runs
 pub mod LastValues
 pub mod Orders
 pub mod WorldLaws
+pub mod SerialOrders
+pub mod Chains
+pub mod Branches
+pub mod ProgramWorlds
+pub mod Sums
+pub mod Dependencies
+pub mod ProgramGraphs
+pub mod ProgramLaws

@@ -2,7 +2,7 @@
 use Rattle.std.proofs.Common.{◌≡◌, ℕ, Bool, true, false, ◌&&◌, ◌||◌, List, [], ◌∷◌, ◌++◌, get_or, refl, sym, ap, ◌∙◌, subst, ⊎_elim, append-nil}
 use Rattle.std.proofs.lemmas.Bool.{both_ways, cases_Bool, and_right, or_cases, or_right, false_from_ne_true}
 use Rattle.plural_core.specs.Stores.{sets}
-use Rattle.plural_order.specs.Instances.{Instance, same, is_in}
+use Rattle.plural_serial.specs.Instances.{Inst as Instance, same, is_in}
 use Rattle.plural_order.specs.World.{World, Life, after, run, start_at, leaves, Ordered, Runs, IsWorld, IsOrder, last_value}
 use Rattle.plural_order.proofs.Instances.{same_self, same_is, in_append, in_middle, append_one, split_at}
 use Rattle.plural_order.proofs.StoredMemories.{sets_same, memories_same}
@@ -14,9 +14,6 @@ or_nothing true = refl
 or_nothing false = refl
 
 module _ {E : Type 0} (w : World E) (ok : IsWorld w) where
-  never_before_self : (t : ℕ) → w.before t t ≡ false
-  never_before_self t = false_from_ne_true (w.before t t) (λ q. both_ways (w.before t t) (ok.apart t t q) q)
-
   -- After these have run, each word is that of the last of them to write it, in the serial order.
   abbrev IsSerialAfter : List Instance → Type 0
   IsSerialAfter past = (a : ℕ) → get_or (run w w.image past) a 0 ≡ last_value w (leaves w) a (λ j. is_in j past) (get_or w.image a 0) w.ran
@@ -39,7 +36,7 @@ module _ {E : Type 0} (w : World E) (ok : IsWorld w) where
     past_done j r b = ⊎_elim
         (λ t. t)
         (λ later. absurd (both_ways (w.before j.0 i.0) (⊎_elim
-        (λ t. ap (λ (y : Instance). w.before y.0 i.0) (same_is j i t) ∙ never_before_self i.0)
+        (λ t. ap (λ (y : Instance). w.before y.0 i.0) (same_is j i t) ∙ ok.never_itself i.0)
         (λ t. (after_it w past i rest kept j t).0)
         (or_cases (same j i) (is_in j rest) later)) b))
         (or_cases (is_in j past) (is_in j (i ∷ rest)) (sym (in_append j past (i ∷ rest)) ∙ (ap (is_in j) (sym e) ∙ (good.all j ∙ r))))
@@ -52,7 +49,7 @@ module _ {E : Type 0} (w : World E) (ok : IsWorld w) where
     reads_serial a reads =
         let cut = split_at i w.ran in_ran in
         now a
-        ∙ (last_before w ok (leaves w) (λ j. is_in j past) cut.0 i cut.1 cut.2 past_done none_after not_in a (get_or w.image a 0) reads
+        ∙ (last_before w ok (leaves w) (λ j. is_in j past) cut.0 i cut.1 cut.2 none_after past_done not_in a (get_or w.image a 0) reads
         ∙ sym (start_value w ok a cut.0 i cut.1 cut.2))
 
     -- so it lives as in the serial run
@@ -74,20 +71,19 @@ module _ {E : Type 0} (w : World E) (ok : IsWorld w) where
     own : is_in i (past ++ i ∷ []) ≡ true
     own = more_in i ∙ or_right (is_in i past) (same i i || false) (ap (λ b. b || false) (same_self i))
 
+    still_none : (j : Instance) → Runs w j → w.before i.0 j.0 ≡ true → is_in j (past ++ i ∷ []) ≡ false
+    still_none j r b =
+        let other : same j i ≡ false = false_from_ne_true (same j i) (λ t. both_ways (w.before i.0 j.0) (ap (λ (y : Instance). w.before i.0 y.0) (same_is j i t) ∙ ok.never_itself i.0) b) in
+        others j other ∙ none_after j r b
+
     step : (a : ℕ) → get_or (after w i (run w w.image past)) a 0 ≡ last_value w (leaves w) a (λ j. is_in j (past ++ i ∷ [])) (get_or w.image a 0) w.ran
     step a = ⊎_elim written kept_word (cases_Bool (w.writes i a))
       where
-        f : Instance → Bool
-        f j = is_in j past
-
-        g : Instance → Bool
-        g j = is_in j (past ++ i ∷ [])
-
         written : w.writes i a ≡ true → get_or (after w i (run w w.image past)) a 0 ≡ last_value w (leaves w) a (λ j. is_in j (past ++ i ∷ [])) (get_or w.image a 0) w.ran
         written t =
             let cut = split_at i w.ran in_ran in
             leaves_serial a t
-            ∙ sym (last_own w ok (leaves w) (λ j. is_in j past) cut.0 i cut.1 cut.2 past_done none_after not_in (λ j. is_in j (past ++ i ∷ [])) a (get_or w.image a 0) own others t)
+            ∙ sym (last_own w ok (leaves w) (λ j. is_in j (past ++ i ∷ [])) cut.0 i cut.1 cut.2 still_none own a (get_or w.image a 0) t)
 
         kept_word : w.writes i a ≡ false → get_or (after w i (run w w.image past)) a 0 ≡ last_value w (leaves w) a (λ j. is_in j (past ++ i ∷ [])) (get_or w.image a 0) w.ran
         kept_word n =

@@ -1,7 +1,7 @@
 -- The memories of a world along lists of its instances, and what stands before and after an instance in the serial order.
 use Rattle.std.proofs.Common.{◌≡◌, ℕ, true, false, cond, List, [], ◌∷◌, ◌++◌, length, get_or, refl, sym, ap, ◌∙◌, subst, ⊎_elim}
 use Rattle.std.proofs.lemmas.Bool.{both_ways, or_cases, false_from_ne_true}
-use Rattle.plural_order.specs.Instances.{Instance, same, is_in}
+use Rattle.plural_serial.specs.Instances.{Inst as Instance, same, is_in}
 use Rattle.plural_order.specs.World.{World, earlier, after, run, start_at, leaves, Ordered, Runs, IsWorld}
 use Rattle.plural_order.proofs.Instances.{same_self, same_is, same_sym, in_first, in_middle}
 use Rattle.plural_order.proofs.StoredMemories.{sets_long, sets_else}
@@ -13,7 +13,7 @@ module _ {E : Type 0} (w : World E) where
   run_append m (x ∷ xs) ys = run_append (after w x m) xs ys
 
   -- A run keeps the memory's length.
-  pub run_long : (m : List ℕ) (is : List Instance) → length (run w m is) ≡ length m
+  run_long : (m : List ℕ) (is : List Instance) → length (run w m is) ≡ length m
   run_long m [] = refl
   run_long m (i ∷ is) = run_long (after w i m) is ∙ sets_long m (w.life i m).stores
 
@@ -59,7 +59,7 @@ module _ {E : Type 0} (w : World E) (ok : IsWorld w) where
 
   -- An instance leaves a word that it may not write as it is.
   pub after_else : (i : Instance) (m : List ℕ) (a : ℕ) → Runs w i → w.writes i a ≡ false → get_or (after w i m) a 0 ≡ get_or m a 0
-  after_else i m a r f = sets_else (w.writes i) w.words m (w.life i m).stores a (ok.stores_kept i m r) f
+  after_else i m a r f = sets_else (w.writes i) m (w.life i m).stores a (ok.stores_kept i m r) f
 
   -- What an instance leaves of a word, by the run of those before it.
   pub leaves_is : (past : List Instance) (i : Instance) (rest : List Instance) (a : ℕ) → w.ran ≡ past ++ i ∷ rest → leaves w i a ≡ get_or (after w i (run w w.image past)) a 0

@@ -1,5 +1,5 @@
 -- Memories with stores set in order.
-use Rattle.std.proofs.Common.{◌≡◌, ◌≢◌, ℕ, zero, suc, ◌<◌, Bool, true, false, List, [], ◌∷◌, length, get_or, refl, sym, ap, ◌∙◌, arith, get_or-set_other}
+use Rattle.std.proofs.Common.{◌≡◌, ◌≢◌, ℕ, zero, suc, Bool, true, false, List, [], ◌∷◌, length, get_or, refl, sym, ap, ◌∙◌, arith, get_or-set_other}
 use Rattle.std.specs.Prelude.{slice_set}
 use Rattle.std.specs.List.{All}
 use Rattle.std.proofs.Math.ListN.{length-set}
@@ -13,12 +13,12 @@ sets_long m [] = refl
 sets_long m (s ∷ ss) = sets_long (slice_set m s.0 s.1) ss ∙ length-set m s.0 s.1
 
 -- Stores leave a word that none of them is to.
-pub sets_else : (writes : ℕ → Bool) (n : ℕ) (m : List ℕ) (ss : List (ℕ × ℕ)) (a : ℕ) → All (λ s. (writes s.0 ≡ true) × (s.0 < n)) ss → writes a ≡ false → get_or (sets m ss) a 0 ≡ get_or m a 0
-sets_else writes n m [] a h f = refl
-sets_else writes n m (s ∷ ss) a h f =
-    let here : writes s.0 ≡ true = (All-head (λ (s : ℕ × ℕ). (writes s.0 ≡ true) × (s.0 < n)) s ss h).0 in
+pub sets_else : (writes : ℕ → Bool) (m : List ℕ) (ss : List (ℕ × ℕ)) (a : ℕ) → All (λ s. writes s.0 ≡ true) ss → writes a ≡ false → get_or (sets m ss) a 0 ≡ get_or m a 0
+sets_else writes m [] a h f = refl
+sets_else writes m (s ∷ ss) a h f =
+    let here : writes s.0 ≡ true = All-head (λ (s : ℕ × ℕ). writes s.0 ≡ true) s ss h in
     let other : a ≢ s.0 = λ (e : a ≡ s.0). both_ways (writes s.0) (ap writes (sym e) ∙ f) here in
-    sets_else writes n (slice_set m s.0 s.1) ss a (All-tail (λ (s : ℕ × ℕ). (writes s.0 ≡ true) × (s.0 < n)) s ss h) f
+    sets_else writes (slice_set m s.0 s.1) ss a (All-tail (λ (s : ℕ × ℕ). writes s.0 ≡ true) s ss h) f
     ∙ get_or-set_other m s.0 a s.1 0 other
 
 set_same : (m n : List ℕ) (i v a : ℕ) → length m ≡ length n → get_or m a 0 ≡ get_or n a 0 → get_or (slice_set m i v) a 0 ≡ get_or (slice_set n i v) a 0

@@ -1,12 +1,12 @@
 -- The laws of every world, from the lemmas.
-use Rattle.std.proofs.Common.{◌≡◌, ℕ, ◌+◌, ◌<◌, true, ◌&&◌, List, [], ◌∷◌, ◌++◌, take, get_or, refl, sym, ap, ◌∙◌, subst, ⊎_elim, append-nil, append_assoc}
+use Rattle.std.proofs.Common.{◌≡◌, ℕ, ◌+◌, true, ◌&&◌, List, [], ◌∷◌, ◌++◌, take, get_or, refl, sym, ap, ◌∙◌, subst, ⊎_elim, append-nil, append_assoc}
 use Rattle.std.specs.Prelude.{slice_set}
 use Rattle.std.proofs.lemmas.Bool.{both_ways, cases_Bool, or_left, false_from_ne_true}
 use Rattle.std.proofs.lemmas.List.{take_all, take_at, length_push}
 use Rattle.std.proofs.lemmas.List.Elements.{All-take}
 use Rattle.plural_core.specs.Stores.{sets}
 use Rattle.plural_core.proofs.LifeLaws.{sets_append}
-use Rattle.plural_order.specs.Instances.{Instance, is_in}
+use Rattle.plural_serial.specs.Instances.{Inst as Instance, is_in}
 use Rattle.plural_order.specs.World.{start_at, leaves, value_at, Ordered, Runs}
 use Rattle.plural_order.specs.Laws.{AnyOrder, LoneWriter, WritersFirst, ValueAtStart, ValueAtEnd, ValueOfAll, StoreByStore}
 use Rattle.plural_order.proofs.Instances.{in_append, in_middle, split_at}
@@ -42,14 +42,14 @@ writers_first w ok done past j rest i a e m past_done writes_i writes_j =
 pub value_at_start : {E : Type 0} → ValueAtStart E
 value_at_start w ok done i a r past_done none_after not_yet reads =
     let cut = split_at i w.ran r in
-    last_before w ok (leaves w) done cut.0 i cut.1 cut.2 past_done none_after not_yet a (get_or w.image a 0) reads
+    last_before w ok (leaves w) done cut.0 i cut.1 cut.2 none_after past_done not_yet a (get_or w.image a 0) reads
     ∙ sym (start_value w ok a cut.0 i cut.1 cut.2)
 
--- What it may write is, once it is done, what it leaves in the serial run.
+-- What an instance may write is, once it is done and while nothing after it is, what it leaves in the serial run.
 pub value_at_end : {E : Type 0} → ValueAtEnd E
-value_at_end w ok done done_then i a r past_done none_after not_yet own others writes =
+value_at_end w ok done i a r none_after own writes =
     let cut = split_at i w.ran r in
-    last_own w ok (leaves w) done cut.0 i cut.1 cut.2 past_done none_after not_yet done_then a (get_or w.image a 0) own others writes
+    last_own w ok (leaves w) done cut.0 i cut.1 cut.2 none_after own a (get_or w.image a 0) writes
 
 -- Once all are done each word is that of the serial memory.
 pub value_of_all : {E : Type 0} → ValueOfAll E
@@ -71,7 +71,7 @@ store_by_store w ok i r = record {
       ap (sets (start_at w i)) next ∙ (sets_append (start_at w i) past ((a, v) ∷ [])
       ∙ ap (λ (ss : List (ℕ × ℕ)). slice_set (sets (start_at w i) ss) a v) (sym first));
   whole = λ n h. ap (sets (start_at w i)) (take_all n (w.life i (start_at w i)).stores h);
-  else = λ n a h. sets_else (w.writes i) w.words (start_at w i) (take n (w.life i (start_at w i)).stores) a
-      (All-take (λ (s : ℕ × ℕ). (w.writes i s.0 ≡ true) × (s.0 < w.words)) n (w.life i (start_at w i)).stores (ok.stores_kept i (start_at w i) r)) h;
+  else = λ n a h. sets_else (w.writes i) (start_at w i) (take n (w.life i (start_at w i)).stores) a
+      (All-take (λ (s : ℕ × ℕ). w.writes i s.0 ≡ true) n (w.life i (start_at w i)).stores (ok.stores_kept i (start_at w i) r)) h;
   long = λ n. sets_long (start_at w i) (take n (w.life i (start_at w i)).stores) ∙ starts_long w ok i;
 }

@@ -1,6 +1,6 @@
 -- Laws of every world, whatever the type of ends. Of some instances `done` says whether they are done.
 use Rattle.std.specs.Prelude.{ℕ, ◌≡◌, ◌≤◌, ◌+◌, Bool, true, false, List, ◌∷◌, ◌++◌, length, slice_index, slice_set}
-use Rattle.plural_order.specs.Instances.{Instance, same, is_in}
+use Rattle.plural_serial.specs.Instances.{Inst as Instance, same, is_in}
 use Rattle.plural_order.specs.World.{World, after, run, start_at, leaves, value_at, Runs, IsWorld, IsOrder, last_value}
 
 -- ---- any order
@@ -37,8 +37,8 @@ LoneWriter E = (w : World E) → IsWorld w → (done : Instance → Bool) (i j :
     → same i j ≡ false → done i ≡ false → done j ≡ false → PastDone w done i.0 → PastDone w done j.0
     → w.writes i a ≡ true → w.reads j a ≡ false
 
--- If the instances of the tasks before a writer of a word are done, so is each writer of the word that stands before it
--- in the serial order.
+-- If the instances of the tasks before a writer of a word are done, so is each writer of the word that stands before
+-- it in the serial order.
 abbrev pub WritersFirst : Type 0 → Type 0
 WritersFirst E = (w : World E) → IsWorld w → (done : Instance → Bool)
     (past : List Instance) (j : Instance) (rest : List Instance) (i : Instance) (a : ℕ) → w.ran ≡ past ++ j ∷ rest
@@ -51,12 +51,11 @@ ValueAtStart E = (w : World E) → IsWorld w → (done : Instance → Bool) (i :
     → PastDone w done i.0 → NoneAfter w done i.0 → done i ≡ false
     → w.reads i a ≡ true → value_now w done a ≡ slice_index (start_at w i) a
 
--- Once it is done too, the value of each word that it may write is what it leaves there in the serial run.
+-- While an instance is done and nothing after it is, the value of each word that it may write is what it leaves there
+-- in the serial run.
 abbrev pub ValueAtEnd : Type 0 → Type 0
-ValueAtEnd E = (w : World E) → IsWorld w → (done done_then : Instance → Bool) (i : Instance) (a : ℕ) → Runs w i
-    → PastDone w done i.0 → NoneAfter w done i.0 → done i ≡ false
-    → done_then i ≡ true → ((j : Instance) → same j i ≡ false → done_then j ≡ done j)
-    → w.writes i a ≡ true → value_now w done_then a ≡ leaves w i a
+ValueAtEnd E = (w : World E) → IsWorld w → (done : Instance → Bool) (i : Instance) (a : ℕ) → Runs w i
+    → NoneAfter w done i.0 → done i ≡ true → w.writes i a ≡ true → value_now w done a ≡ leaves w i a
 
 -- Once all that run are done, the value of each word is that of the serial memory.
 abbrev pub ValueOfAll : Type 0 → Type 0

@@ -1,9 +1,9 @@
--- Worlds: instances that run over one memory, in the serial order and in others. What an instance does over a memory is
--- data of the world, and so is the type of its end; nothing here knows how it comes about. (This project's own.)
-use Rattle.std.specs.Prelude.{◌≡◌, ℕ, ◌<◌, Bool, true, false, ◌&&◌, cond, List, [], ◌∷◌, length, take, slice_index}
+-- Worlds: instances that run over one memory, in the serial order and in others. What an instance does over a memory
+-- is data of the world, and so is the type of its end; nothing here knows how it comes about. (This project's own.)
+use Rattle.std.specs.Prelude.{◌≡◌, ℕ, Bool, true, false, ◌&&◌, cond, List, [], ◌∷◌, length, take, slice_index}
 use Rattle.std.specs.List.{All}
 use Rattle.plural_core.specs.Stores.{sets}
-use Rattle.plural_order.specs.Instances.{Instance, same, is_in}
+use Rattle.plural_serial.specs.Instances.{Inst as Instance, same, is_in}
 
 -- What an instance does over a memory, alone: how it ends, how many instructions it completes, the words of its load
 -- accesses, and its stores, each a word and a value.
@@ -54,27 +54,27 @@ module _ {E : Type 0} (w : World E) where
   -- No instance stands twice in the list, and none of a task stands after one of a task that it comes before.
   abbrev pub Ordered : List Instance → Type 0
   Ordered [] = Unit {0}
-  Ordered (i ∷ is) = (is_in i is ≡ false) × ((j : Instance) → is_in j is ≡ true → w.before j.0 i.0 ≡ false) × Ordered is
+  Ordered (i ∷ is) =
+      (is_in i is ≡ false) × ((j : Instance) → is_in j is ≡ true → w.before j.0 i.0 ≡ false) × Ordered is
 
   -- The instance runs.
   abbrev pub Runs : Instance → Type 0
   Runs i = is_in i w.ran ≡ true
 
-  -- What has to hold of a world: the opening memory has its words; the serial order is in order; what may be written may
-  -- be read; an instance that runs stores where it may write, within the memory, and what it does follows from the
-  -- words that it may read; of two that run, neither's task before the other's, none may write what the other may read;
-  -- and of two tasks one at most comes before the other.
+  -- What has to hold of a world: the opening memory has its words; the serial order is in order; what may be written
+  -- may be read; an instance that runs stores where it may write, and what it does follows from the words that it may
+  -- read; of two that run, neither's task before the other's, none may write what the other may read; and no task comes
+  -- before itself.
   pub record IsWorld : Type 0 where
     pub whole : length w.image ≡ w.words
     pub ordered : Ordered w.ran
     pub read_too : (i : Instance) (a : ℕ) → w.writes i a ≡ true → w.reads i a ≡ true
-    pub stores_kept : (i : Instance) (m : List ℕ) → Runs i
-        → All (λ s. (w.writes i s.0 ≡ true) × (s.0 < w.words)) (w.life i m).stores
+    pub stores_kept : (i : Instance) (m : List ℕ) → Runs i → All (λ s. w.writes i s.0 ≡ true) (w.life i m).stores
     pub footprint : (i : Instance) (m n : List ℕ) → Runs i → length m ≡ w.words → length n ≡ w.words
         → ((a : ℕ) → w.reads i a ≡ true → slice_index m a ≡ slice_index n a) → w.life i m ≡ w.life i n
     pub accepted : (i j : Instance) (a : ℕ) → Runs i → Runs j → same i j ≡ false
         → w.before i.0 j.0 ≡ false → w.before j.0 i.0 ≡ false → w.writes i a ≡ true → w.reads j a ≡ false
-    pub apart : (t u : ℕ) → w.before t u ≡ true → w.before u t ≡ false
+    pub never_itself : (t : ℕ) → w.before t t ≡ false
 
   -- An order of the world's instances: those that run, each once, none after one of a task that its own comes before.
   pub record IsOrder (order : List Instance) : Type 0 where

@@ -1,6 +1,10 @@
-//! Laws of worlds.
+//! Laws of worlds, and of the serial run of a program as one.
 ghost use Rattle.plural_order.specs.Laws.{AnyOrder, LoneWriter, WritersFirst, ValueAtStart, ValueAtEnd, ValueOfAll};
 ghost use Rattle.plural_order.specs.Laws.{StoreByStore};
+ghost use Rattle.plural_order.specs.ProgramLaws.{WorldOfProgram, OneBranch, MemoriesOfProgram, RecordsOfProgram};
+ghost use Rattle.plural_order.specs.ProgramLaws.{AnyOrderOfProgram};
+ghost use Rattle.plural_order.specs.TaskGraph.{RootsRun};
+ghost use Rattle.plural_order.specs.ProgramGraph.{GraphOfProgram, OutcomesOfProgram};
 
 /// Any order of a world's instances that keeps what comes before leaves the serial memory, and each instance lives in
 /// it as in the serial run: the same end, instructions, loads and stores.
@@ -23,7 +27,8 @@ pub fn value_at_start<E>()
     ensures { ValueAtStart E }
 {}
 
-/// Once it is done, the value of each word that it may write is what it leaves in the serial run.
+/// While an instance is done and nothing after it is, the value of each word that it may write is what it leaves in the
+/// serial run.
 pub fn value_at_end<E>()
     ensures { ValueAtEnd E }
 {}
@@ -36,4 +41,45 @@ pub fn value_of_all<E>()
 /// The memory of an instance in the serial run, store by store.
 pub fn store_by_store<E>()
     ensures { StoreByStore E }
+{}
+
+/// The serial run of a program whose map has no clash is a world.
+pub fn world_of_program()
+    ensures { WorldOfProgram }
+{}
+
+/// Of two exclusive tasks one has no instance that runs.
+pub fn one_branch()
+    ensures { OneBranch }
+{}
+
+/// The memories of the serial run are those of its world.
+pub fn memories_of_program()
+    ensures { MemoriesOfProgram }
+{}
+
+/// The records of the serial run are those of the instances of its world.
+pub fn records_of_program()
+    ensures { RecordsOfProgram }
+{}
+
+/// In a map without a clash the instances may run in any order that the dependencies allow: the last memory is that of
+/// the serial run, and each instance has its record there.
+pub fn any_order_of_program()
+    ensures { AnyOrderOfProgram }
+{}
+
+/// A task without dependencies runs, and no task comes before it.
+pub fn roots_run()
+    ensures { RootsRun }
+{}
+
+/// The serial run of a program is a task graph.
+pub fn graph_of_program()
+    ensures { GraphOfProgram }
+{}
+
+/// The outcomes and the decisions of the serial run are those of its task graph.
+pub fn outcomes_of_program()
+    ensures { OutcomesOfProgram }
 {}
