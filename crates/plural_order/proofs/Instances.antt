@@ -1,11 +1,8 @@
 -- Lists of instances.
-use Rattle.std.proofs.Common.{◌≡◌, Bool, true, false, ◌&&◌, ◌||◌, eqb, eq-eqb, eqb-true, List, [], ◌∷◌, ◌++◌, refl, sym, ap, ◌∙◌, ⊎_elim}
+use Rattle.std.proofs.Common.{◌≡◌, Bool, true, false, ◌||◌, eqb, eqb-true, List, [], ◌∷◌, ◌++◌, refl, sym, ap, ◌∙◌, ⊎_elim}
 use Rattle.std.proofs.lemmas.Bool.{both_ways, and_parts, or_right, or_cases, false_from_ne_true}
 use Rattle.plural_serial.specs.Instances.{Inst as Instance, same, is_in}
-
--- An instance is the same as itself.
-pub same_self : (i : Instance) → same i i ≡ true
-same_self i = ap (λ b. b && eqb i.1 i.1) (eq-eqb i.0 i.0 refl) ∙ eq-eqb i.1 i.1 refl
+use Rattle.plural_serial.proofs.Records.{same_self}
 
 -- Instances that are the same are equal.
 pub same_is : (i j : Instance) → same i j ≡ true → i ≡ j

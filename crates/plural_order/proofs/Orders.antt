@@ -3,8 +3,9 @@ use Rattle.std.proofs.Common.{◌≡◌, ℕ, Bool, true, false, ◌&&◌, ◌||
 use Rattle.std.proofs.lemmas.Bool.{both_ways, cases_Bool, and_right, or_cases, or_right, false_from_ne_true}
 use Rattle.plural_core.specs.Stores.{sets}
 use Rattle.plural_serial.specs.Instances.{Inst as Instance, same, is_in}
+use Rattle.plural_serial.proofs.Records.{same_self}
 use Rattle.plural_order.specs.World.{World, Life, after, run, start_at, leaves, Ordered, Runs, IsWorld, IsOrder, last_value}
-use Rattle.plural_order.proofs.Instances.{same_self, same_is, in_append, in_middle, append_one, split_at}
+use Rattle.plural_order.proofs.Instances.{same_is, in_append, in_middle, append_one, split_at}
 use Rattle.plural_order.proofs.StoredMemories.{sets_same, memories_same}
 use Rattle.plural_order.proofs.Runs.{run_append, after_it, before_it, starts_long, runs_long, after_else, leaves_is}
 use Rattle.plural_order.proofs.LastValues.{all_done, last_same, last_none, serial_value, start_value, last_before, last_own}

@@ -2,8 +2,9 @@
 use Rattle.std.proofs.Common.{◌≡◌, ℕ, true, false, cond, List, [], ◌∷◌, ◌++◌, length, get_or, refl, sym, ap, ◌∙◌, subst, ⊎_elim}
 use Rattle.std.proofs.lemmas.Bool.{both_ways, or_cases, false_from_ne_true}
 use Rattle.plural_serial.specs.Instances.{Inst as Instance, same, is_in}
+use Rattle.plural_serial.proofs.Records.{same_self}
 use Rattle.plural_order.specs.World.{World, earlier, after, run, start_at, leaves, Ordered, Runs, IsWorld}
-use Rattle.plural_order.proofs.Instances.{same_self, same_is, same_sym, in_first, in_middle}
+use Rattle.plural_order.proofs.Instances.{same_is, same_sym, in_first, in_middle}
 use Rattle.plural_order.proofs.StoredMemories.{sets_long, sets_else}
 
 module _ {E : Type 0} (w : World E) where

@@ -23,25 +23,30 @@ use Rattle.plural_order.specs.ProgramWorld.{world_of}
 use Rattle.plural_order.proofs.Instances.{same_is}
 
 -- An instance that follows another is another.
-differs : (tasks : List TaskValue) (s u : Started) → Follows (order_of tasks) s u → same (instance_of s) (instance_of u) ≡ false
-differs tasks s u h = false_from_ne_true (same (instance_of s) (instance_of u)) (λ e.
-    let parts = and_parts (eqb s.t u.t) (eqb s.k u.k) e in
-    by h.step (eqb-true s.t u.t parts.0) (eqb-true s.k u.k parts.1))
+follows_other : (tasks : List TaskValue) (s u : Started) → Follows (order_of tasks) s u → s.t ≡ u.t → s.k ≡ u.k → ⊥
+follows_other tasks s u h a b = by h.step
   where
-    by : (h.at < h.later) ⊎ ((h.at ≡ h.later) × (s.k < u.k)) → s.t ≡ u.t → s.k ≡ u.k → ⊥
-    by (inl lt) a b = places_differ tasks h.at h.later lt h.within (h.there ∙ a ∙ sym h.here)
-    by (inr q) a b = let k = q.1 in omega arith
+    by : (h.at < h.later) ⊎ ((h.at ≡ h.later) × (s.k < u.k)) → ⊥
+    by (inl lt) = places_differ tasks h.at h.later lt h.within (h.there ∙ a ∙ sym h.here)
+    by (inr q) = let k = q.1 in omega arith
 
 -- Its task doesn't come before that of the other.
-free_of : (tasks : List TaskValue) → Reaches tasks → (s u : Started) → Follows (order_of tasks) s u → comes_before tasks u.t s.t ≡ false
-free_of tasks reaches s u h = false_from_ne_true (comes_before tasks u.t s.t) (λ e.
+follows_free : (tasks : List TaskValue) (s u : Started) → Follows (order_of tasks) s u → Before tasks u.t s.t → ⊥
+follows_free tasks s u h b =
     not_before tasks h.at h.later (no_later h.step) h.within
-    (subst (λ x. Before tasks (slice_index (order_of tasks) h.later) x) (sym h.there)
-    (subst (λ x. Before tasks x s.t) (sym h.here) ((before_test tasks reaches u.t s.t).0 e))))
+    (subst (λ x. Before tasks (slice_index (order_of tasks) h.later) x) (sym h.there) (subst (λ x. Before tasks x s.t) (sym h.here) b))
   where
     no_later : {a b c d : ℕ} → (a < b) ⊎ ((a ≡ b) × (c < d)) → a ≤ b
     no_later (inl x) = omega arith
     no_later (inr y) = let z = y.0 in omega arith
+
+differs : (tasks : List TaskValue) (s u : Started) → Follows (order_of tasks) s u → same (instance_of s) (instance_of u) ≡ false
+differs tasks s u h = false_from_ne_true (same (instance_of s) (instance_of u)) (λ e.
+    let parts = and_parts (eqb s.t u.t) (eqb s.k u.k) e in
+    follows_other tasks s u h (eqb-true s.t u.t parts.0) (eqb-true s.k u.k parts.1))
+
+free_of : (tasks : List TaskValue) → Reaches tasks → (s u : Started) → Follows (order_of tasks) s u → comes_before tasks u.t s.t ≡ false
+free_of tasks reaches s u h = false_from_ne_true (comes_before tasks u.t s.t) (λ e. follows_free tasks s u h ((before_test tasks reaches u.t s.t).0 e))
 
 absent_from : (tasks : List TaskValue) (s : Started) (us : List Started) → All (Follows (order_of tasks) s) us → is_in (instance_of s) (instances_of us) ≡ false
 absent_from tasks s [] h = refl
