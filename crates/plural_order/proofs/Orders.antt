@@ -106,7 +106,8 @@ module _ {E : Type 0} (w : World E) (ok : IsWorld w) where
       subst (λ (l : List Instance). IsSerialAfter l) (append_one past i is)
       (serial_along order good (past ++ i ∷ []) is rest (e ∙ sym (append_one past i (is ++ rest))) (serial_after_more order good past i (is ++ rest) e now))
 
-  serial_after : (order : List Instance) → IsOrder w order → (past rest : List Instance) → order ≡ past ++ rest → IsSerialAfter past
+  -- After the first instances of an order each word is that of the last of them to write it.
+  pub serial_after : (order : List Instance) → IsOrder w order → (past rest : List Instance) → order ≡ past ++ rest → IsSerialAfter past
   serial_after order good past rest e = serial_along order good [] past rest e serial_after_none
 
   -- Each instance of an order lives as in the serial run.

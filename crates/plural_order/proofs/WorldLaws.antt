@@ -8,16 +8,20 @@ use Rattle.plural_core.specs.Stores.{sets}
 use Rattle.plural_core.proofs.LifeLaws.{sets_append}
 use Rattle.plural_serial.specs.Instances.{Inst as Instance, is_in}
 use Rattle.plural_order.specs.World.{start_at, leaves, value_at, Ordered, Runs}
-use Rattle.plural_order.specs.Laws.{AnyOrder, LoneWriter, WritersFirst, ValueAtStart, ValueAtEnd, ValueOfAll, StoreByStore}
+use Rattle.plural_order.specs.Laws.{AnyOrder, ValueAlong, LoneWriter, WritersFirst, ValueAtStart, ValueAtEnd, ValueOfAll, StoreByStore}
 use Rattle.plural_order.proofs.Instances.{in_append, in_middle, split_at}
 use Rattle.plural_order.proofs.StoredMemories.{sets_long, sets_else}
 use Rattle.plural_order.proofs.Runs.{before_it, starts_long, leaves_is}
 use Rattle.plural_order.proofs.LastValues.{all_done, last_same, serial_value, start_value, last_before, last_own}
-use Rattle.plural_order.proofs.Orders.{order_memory, lives_in_order}
+use Rattle.plural_order.proofs.Orders.{serial_after, order_memory, lives_in_order}
 
 -- Any order leaves the serial memory, and each instance lives in it as in the serial run.
 pub any_order : {E : Type 0} → AnyOrder E
 any_order w ok order good = record { memory = order_memory w ok order good; lives = lives_in_order w ok order good }
+
+-- After the first instances of an order each word has the value by these.
+pub value_along : {E : Type 0} → ValueAlong E
+value_along w ok order good past rest e a = serial_after w ok order good past rest e a
 
 -- Two under way share no word that one of them may write.
 pub lone_writer : {E : Type 0} → LoneWriter E

@@ -30,6 +30,11 @@ NoneAfter w done t = (i : Instance) → Runs w i → w.before t i.0 ≡ true →
 abbrev pub value_now : {E : Type 0} → World E → (done : Instance → Bool) → (a : ℕ) → ℕ
 value_now w done a = last_value w (leaves w) a done (slice_index w.image a) w.ran
 
+-- After the first instances of an order, however many, each word of the memory has the value by these instances.
+abbrev pub ValueAlong : Type 0 → Type 0
+ValueAlong E = (w : World E) → IsWorld w → (order : List Instance) → IsOrder w order → (past rest : List Instance)
+    → order ≡ past ++ rest → (a : ℕ) → slice_index (run w w.image past) a ≡ value_now w (λ i. is_in i past) a
+
 -- Of two instances under way (they aren't done, and those of the tasks before them are), what one may write the other
 -- may not read.
 abbrev pub LoneWriter : Type 0 → Type 0

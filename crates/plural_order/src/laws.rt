@@ -1,6 +1,6 @@
 //! Laws of worlds, and of the serial run of a program as one.
-ghost use Rattle.plural_order.specs.Laws.{AnyOrder, LoneWriter, WritersFirst, ValueAtStart, ValueAtEnd, ValueOfAll};
-ghost use Rattle.plural_order.specs.Laws.{StoreByStore};
+ghost use Rattle.plural_order.specs.Laws.{AnyOrder, ValueAlong, LoneWriter, WritersFirst, ValueAtStart, ValueAtEnd};
+ghost use Rattle.plural_order.specs.Laws.{ValueOfAll, StoreByStore};
 ghost use Rattle.plural_order.specs.ProgramLaws.{WorldOfProgram, OneBranch, MemoriesOfProgram, RecordsOfProgram};
 ghost use Rattle.plural_order.specs.ProgramLaws.{AnyOrderOfProgram};
 ghost use Rattle.plural_order.specs.TaskGraph.{RootsRun};
@@ -10,6 +10,12 @@ ghost use Rattle.plural_order.specs.ProgramGraph.{GraphOfProgram, OutcomesOfProg
 /// it as in the serial run: the same end, instructions, loads and stores.
 pub fn any_order<E>()
     ensures { AnyOrder E }
+{}
+
+/// After the first instances of an order, however many, each word of the memory has the value that the last of them to
+/// write it, in the serial order, leaves there in the serial run.
+pub fn value_along<E>()
+    ensures { ValueAlong E }
 {}
 
 /// Two instances under way share no word that one of them may write.
