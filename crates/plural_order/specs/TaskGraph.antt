@@ -37,40 +37,39 @@ decide_by some deps failed unmet met =
     (cond some (cond (met == 0) decision.Skip decision.Run) (cond (unmet == 0) decision.Run decision.Skip)))
     decision.Fail
 
-module _ (g : TaskGraph) where
-  -- 1 if some end of an instance of task t has bit i, else 0.
-  abbrev pub any_end : (t i : ℕ) → ℕ
-  any_end t i = sign (sum_below (λ k. bit_at (g.ends t k) i) (g.quota t))
+-- 1 if some end of an instance of task t has bit i, else 0.
+abbrev pub any_end : TaskGraph → (t i : ℕ) → ℕ
+any_end g t i = sign (sum_below (λ k. bit_at (g.ends t k) i) (g.quota t))
 
-  -- 1 if some dependency of task u has bit i, else 0.
-  abbrev pub any_edge : (u i : ℕ) → ℕ
-  any_edge u i = sign (sum_below (λ t. masked (times u (g.successors t)) (bit_at (g.edges t u) i)) g.tasks)
+-- 1 if some dependency of task u has bit i, else 0.
+abbrev pub any_edge : TaskGraph → (u i : ℕ) → ℕ
+any_edge g u i = sign (sum_below (λ t. masked (times u (g.successors t)) (bit_at (g.edges t u) i)) g.tasks)
 
-  -- What is decided of task u by the bits of its dependencies.
-  abbrev pub decision_by : (u : ℕ) → Decision
-  decision_by u = decide_by (g.some u) (g.deps u) (any_edge u 0) (any_edge u 1) (any_edge u 2)
+-- What is decided of task u by the bits of its dependencies.
+abbrev pub decision_by : TaskGraph → (u : ℕ) → Decision
+decision_by g u = decide_by (g.some u) (g.deps u) (any_edge g u 0) (any_edge g u 1) (any_edge g u 2)
 
-  -- What has to hold: a task stands at most once among those that depend on another, which are tasks of higher rank;
-  -- its dependencies are counted; each task has an instance, and instances of tasks alone run; a task all of whose
-  -- instances ran has the outcome of their ends; of what is decided, to run lets all instances run, to skip and to
-  -- fail let none run and give the outcome; and coming before is made of dependencies.
-  pub record IsTaskGraph : Type 0 where
-    pub successor_once : (t u : ℕ) → times u (g.successors t) ≤ 1
-    pub successor_task : (t u : ℕ) → 1 ≤ times u (g.successors t) → u < g.tasks
-    pub rises : (t u : ℕ) → 1 ≤ times u (g.successors t) → g.rank t < g.rank u
-    pub deps_counted : (u : ℕ) → u < g.tasks → g.deps u ≡ sum_below (λ t. times u (g.successors t)) g.tasks
-    pub quota_some : (t : ℕ) → t < g.tasks → 1 ≤ g.quota t
-    pub ran_instances : (t k : ℕ) → g.ran t k ≡ true → (t < g.tasks) × (k < g.quota t)
-    pub outcome_ran : (t : ℕ) → t < g.tasks → ((k : ℕ) → k < g.quota t → g.ran t k ≡ true)
-        → g.outcome t ≡ outcome_by (any_end t 1) (any_end t 0)
-    pub runs : (u k : ℕ) → u < g.tasks → decision_by u ≡ decision.Run → k < g.quota u → g.ran u k ≡ true
-    pub skips : (u : ℕ) → u < g.tasks → decision_by u ≡ decision.Skip
-        → (g.outcome u ≡ outcome.Skipped) × ((k : ℕ) → g.ran u k ≡ false)
-    pub fails : (u : ℕ) → u < g.tasks → decision_by u ≡ decision.Fail
-        → (g.outcome u ≡ outcome.Failed) × ((k : ℕ) → g.ran u k ≡ false)
-    pub before_by : (x u : ℕ) → g.before x u ≡ true
-        → (t : ℕ) × (t < g.tasks) × (1 ≤ times u (g.successors t)) × ((x ≡ t) ⊎ (g.before x t ≡ true))
-    pub before_successor : (t u : ℕ) → 1 ≤ times u (g.successors t) → g.before t u ≡ true
+-- What has to hold of a task graph: a task stands at most once among those that depend on another, which are tasks of
+-- higher rank; its dependencies are counted; each task has an instance, and instances of tasks alone run; a task all of
+-- whose instances ran has the outcome of their ends; of what is decided, to run lets all instances run, to skip and to
+-- fail let none run and give the outcome; and coming before is made of dependencies.
+pub record IsTaskGraph (g : TaskGraph) : Type 0 where
+  pub successor_once : (t u : ℕ) → times u (g.successors t) ≤ 1
+  pub successor_task : (t u : ℕ) → 1 ≤ times u (g.successors t) → u < g.tasks
+  pub rises : (t u : ℕ) → 1 ≤ times u (g.successors t) → g.rank t < g.rank u
+  pub deps_counted : (u : ℕ) → u < g.tasks → g.deps u ≡ sum_below (λ t. times u (g.successors t)) g.tasks
+  pub quota_some : (t : ℕ) → t < g.tasks → 1 ≤ g.quota t
+  pub ran_instances : (t k : ℕ) → g.ran t k ≡ true → (t < g.tasks) × (k < g.quota t)
+  pub outcome_ran : (t : ℕ) → t < g.tasks → ((k : ℕ) → k < g.quota t → g.ran t k ≡ true)
+      → g.outcome t ≡ outcome_by (any_end g t 1) (any_end g t 0)
+  pub runs : (u k : ℕ) → u < g.tasks → decision_by g u ≡ decision.Run → k < g.quota u → g.ran u k ≡ true
+  pub skips : (u : ℕ) → u < g.tasks → decision_by g u ≡ decision.Skip
+      → (g.outcome u ≡ outcome.Skipped) × ((k : ℕ) → g.ran u k ≡ false)
+  pub fails : (u : ℕ) → u < g.tasks → decision_by g u ≡ decision.Fail
+      → (g.outcome u ≡ outcome.Failed) × ((k : ℕ) → g.ran u k ≡ false)
+  pub before_by : (x u : ℕ) → g.before x u ≡ true
+      → (t : ℕ) × (t < g.tasks) × (1 ≤ times u (g.successors t)) × ((x ≡ t) ⊎ (g.before x t ≡ true))
+  pub before_successor : (t u : ℕ) → 1 ≤ times u (g.successors t) → g.before t u ≡ true
 
 -- All instances of task u run, and no task comes before it.
 pub record IsRoot (g : TaskGraph) (u : ℕ) : Type 0 where

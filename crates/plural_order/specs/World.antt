@@ -29,57 +29,56 @@ abbrev pub earlier : Instance → List Instance → List Instance
 earlier i [] = []
 earlier i (j ∷ js) = cond (same i j) [] (j ∷ earlier i js)
 
-module _ {E : Type 0} (w : World E) where
-  -- The memory after an instance has run over one.
-  abbrev pub after : Instance → List ℕ → List ℕ
-  after i m = sets m (w.life i m).stores
+-- The memory after an instance has run over one.
+abbrev pub after : {E : Type 0} → World E → Instance → List ℕ → List ℕ
+after w i m = sets m (w.life i m).stores
 
-  -- The memory after these instances have run over one, one after another.
-  abbrev pub run : List ℕ → List Instance → List ℕ
-  run m [] = m
-  run m (i ∷ is) = run (after i m) is
+-- The memory after these instances have run over one, one after another.
+abbrev pub run : {E : Type 0} → World E → List ℕ → List Instance → List ℕ
+run w m [] = m
+run w m (i ∷ is) = run w (after w i m) is
 
-  -- The memory at an instance's start in the serial run.
-  unfoldable pub start_at : Instance → List ℕ
-  start_at i = run w.image (earlier i w.ran)
+-- The memory at an instance's start in the serial run.
+unfoldable pub start_at : {E : Type 0} → World E → Instance → List ℕ
+start_at w i = run w w.image (earlier i w.ran)
 
-  -- What an instance leaves of a word in the serial run.
-  unfoldable pub leaves : Instance → ℕ → ℕ
-  leaves i a = slice_index (after i (start_at i)) a
+-- What an instance leaves of a word in the serial run.
+unfoldable pub leaves : {E : Type 0} → World E → Instance → ℕ → ℕ
+leaves w i a = slice_index (after w i (start_at w i)) a
 
-  -- An instance's memory after its first n stores in the serial run.
-  unfoldable pub value_at : Instance → (n : ℕ) → List ℕ
-  value_at i n = sets (start_at i) (take n (w.life i (start_at i)).stores)
+-- An instance's memory after its first n stores in the serial run.
+unfoldable pub value_at : {E : Type 0} → World E → Instance → (n : ℕ) → List ℕ
+value_at w i n = sets (start_at w i) (take n (w.life i (start_at w i)).stores)
 
-  -- No instance stands twice in the list, and none of a task stands after one of a task that it comes before.
-  abbrev pub Ordered : List Instance → Type 0
-  Ordered [] = Unit {0}
-  Ordered (i ∷ is) =
-      (is_in i is ≡ false) × ((j : Instance) → is_in j is ≡ true → w.before j.0 i.0 ≡ false) × Ordered is
+-- No instance stands twice in the list, and none of a task stands after one of a task that it comes before.
+abbrev pub Ordered : {E : Type 0} → World E → List Instance → Type 0
+Ordered w [] = Unit {0}
+Ordered w (i ∷ is) =
+    (is_in i is ≡ false) × ((j : Instance) → is_in j is ≡ true → w.before j.0 i.0 ≡ false) × Ordered w is
 
-  -- The instance runs.
-  abbrev pub Runs : Instance → Type 0
-  Runs i = is_in i w.ran ≡ true
+-- The instance runs.
+abbrev pub Runs : {E : Type 0} → World E → Instance → Type 0
+Runs w i = is_in i w.ran ≡ true
 
-  -- What has to hold of a world: the opening memory has its words; the serial order is in order; what may be written
-  -- may be read; an instance that runs stores where it may write, and what it does follows from the words that it may
-  -- read; of two that run, neither's task before the other's, none may write what the other may read; and no task comes
-  -- before itself.
-  pub record IsWorld : Type 0 where
-    pub whole : length w.image ≡ w.words
-    pub ordered : Ordered w.ran
-    pub read_too : (i : Instance) (a : ℕ) → w.writes i a ≡ true → w.reads i a ≡ true
-    pub stores_kept : (i : Instance) (m : List ℕ) → Runs i → All (λ s. w.writes i s.0 ≡ true) (w.life i m).stores
-    pub footprint : (i : Instance) (m n : List ℕ) → Runs i → length m ≡ w.words → length n ≡ w.words
-        → ((a : ℕ) → w.reads i a ≡ true → slice_index m a ≡ slice_index n a) → w.life i m ≡ w.life i n
-    pub accepted : (i j : Instance) (a : ℕ) → Runs i → Runs j → same i j ≡ false
-        → w.before i.0 j.0 ≡ false → w.before j.0 i.0 ≡ false → w.writes i a ≡ true → w.reads j a ≡ false
-    pub never_itself : (t : ℕ) → w.before t t ≡ false
+-- What has to hold of a world: the opening memory has its words; the serial order is in order; what may be written may
+-- be read; an instance that runs stores where it may write, and what it does follows from the words that it may read;
+-- of two that run, neither's task before the other's, none may write what the other may read; and no task comes before
+-- itself.
+pub record IsWorld {E : Type 0} (w : World E) : Type 0 where
+  pub whole : length w.image ≡ w.words
+  pub ordered : Ordered w w.ran
+  pub read_too : (i : Instance) (a : ℕ) → w.writes i a ≡ true → w.reads i a ≡ true
+  pub stores_kept : (i : Instance) (m : List ℕ) → Runs w i → All (λ s. w.writes i s.0 ≡ true) (w.life i m).stores
+  pub footprint : (i : Instance) (m n : List ℕ) → Runs w i → length m ≡ w.words → length n ≡ w.words
+      → ((a : ℕ) → w.reads i a ≡ true → slice_index m a ≡ slice_index n a) → w.life i m ≡ w.life i n
+  pub accepted : (i j : Instance) (a : ℕ) → Runs w i → Runs w j → same i j ≡ false
+      → w.before i.0 j.0 ≡ false → w.before j.0 i.0 ≡ false → w.writes i a ≡ true → w.reads j a ≡ false
+  pub never_itself : (t : ℕ) → w.before t t ≡ false
 
-  -- An order of the world's instances: those that run, each once, none after one of a task that its own comes before.
-  pub record IsOrder (order : List Instance) : Type 0 where
-    pub all : (i : Instance) → is_in i order ≡ is_in i w.ran
-    pub ordered : Ordered order
+-- An order of the world's instances: those that run, each once, none after one of a task that its own comes before.
+pub record IsOrder {E : Type 0} (w : World E) (order : List Instance) : Type 0 where
+  pub all : (i : Instance) → is_in i order ≡ is_in i w.ran
+  pub ordered : Ordered w order
 
 -- The last value of word a by the instances of a list that are done and may write it, each of which left there what
 -- `left` says; x if there is none.
