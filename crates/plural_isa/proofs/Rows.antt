@@ -1,5 +1,5 @@
 -- What the rows of the table are, operation by operation.
-use Rattle.std.proofs.Common.{ℕ, ◌≡◌, ◌<◌, Bool, true, false, Some, arith, rules, refl}
+use Rattle.std.proofs.Common.{ℕ, ◌≡◌, ◌<◌, true, false, Some, arith, rules, refl}
 use Rattle.plural_isa.specs.Table.{row_of, operation_at, code_of, funct3_of, funct7_of, is_shift}
 use Rattle.plural_isa.specs.declared.table.Operation.{Operation}
 use Rattle.plural_isa.specs.declared.table.Operation.TheVariants as o

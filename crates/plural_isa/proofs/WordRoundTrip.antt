@@ -3,7 +3,7 @@ use Rattle.std.specs.Prelude.{option_map}
 use Rattle.std.proofs.Common.{ℕ, ◌≡◌, ◌+◌, ◌*◌, ◌/◌, ◌^◌, ◌<◌, Bool, true, false, cond, ◌&&◌, eqb, List, [], ◌∷◌, Some, None, find, arith, refl, sym, ap, subst}
 use Rattle.std.proofs.lemmas.Bool.Decides.{nat_tests}
 use Rattle.plural_isa.specs.Fields.{opcode, rd, funct3, rs1, rs2, funct7, imm_b, imm_s, imm_j}
-use Rattle.plural_isa.specs.Table.{row_of, has_row, has_fixed, is_row_of, operation_of, operations, code_of, funct3_of, funct7_of, fixed_funct7, is_shift}
+use Rattle.plural_isa.specs.Table.{row_of, has_fixed, is_row_of, operation_of, operations, code_of, funct3_of, funct7_of, fixed_funct7, is_shift}
 use Rattle.plural_isa.specs.Decoding.{decoded, instr_of, amount_or_imm}
 use Rattle.plural_isa.specs.Encoding.{bits_of, i_word, s_word, b_word, j_word, word_of}
 use Rattle.plural_isa.specs.declared.table.Operation.{Operation}

@@ -1,40 +1,42 @@
-//! The words of a program's code, each decoded once.
+//! The words of a program's code, each laid out for execution once.
 
 ghost use Rattle.std.specs.Prelude.{◌≡◌, ◌<◌, ◌≤◌, length, slice_index, map, IfOk};
 ghost use Rattle.plural_isa.specs.Decoding.{decoded};
+ghost use Rattle.plural_isa.specs.FlatInstrs.{flat_of};
 
 use crate::decoder::decode;
+use crate::flat_instr::{FlatInstr, flat_instr};
 use crate::instr::Instr;
 use std::alloc::{AllocError, Global};
 use std::marker::Model;
 
 /// The words of a program's code, at most 16,384, seen by contracts as their list. Word `i` stands at
-/// byte address `4 * i` of the code's own memory. Each word is decoded once, when the code is made.
+/// byte address `4 * i` of the code's own memory. Each word is laid out for execution once, when the code is made.
 #[derive(Drop)]
 pub struct Code {
     words: Vec<u32>,
-    instrs: Vec<Option<Instr>>,
+    flat: Vec<FlatInstr>,
 }
 
 impl Model for Code {
     ghost use Rattle.std.specs.Prelude.{◌≡◌, ℕ, ◌≤◌, List, length, map};
-    ghost use Rattle.plural_isa.specs.Decoding.{decoded};
+    ghost use Rattle.plural_isa.specs.FlatInstrs.{flat_of};
 
     ghost Value = { List ℕ };
 
     ghost view = { λ c. c.words.items };
 
-    ghost invariant = { λ c. (length c.words.items ≤ 16384) × (c.instrs.items ≡ map decoded c.words.items) };
+    ghost invariant = { λ c. (length c.words.items ≤ 16384) × (c.flat.items ≡ map flat_of c.words.items) };
 }
 
 /// What is kept for a word beside the word takes at most 16 bytes.
-const _: () = prove!(size_of::<Option<Instr>>() <= 16);
+const _: () = prove!(size_of::<FlatInstr>() <= 16);
 
-/// The instruction of each word.
-fn instrs_of(alloc: Global, words: &[u32]) -> Result<Vec<Option<Instr>>, AllocError>
-    ensures { IfOk result (λ instrs. instrs.items ≡ map decoded words.now) }
+/// Each word laid out for execution.
+fn flat_instrs(alloc: Global, words: &[u32]) -> Result<Vec<FlatInstr>, AllocError>
+    ensures { IfOk result (λ flat. flat.items ≡ map flat_of words.now) }
 {
-    words.iter().map(|word| decode(*word)).collect(alloc)
+    words.iter().map(|word| flat_instr(*word)).collect(alloc)
 }
 
 impl Code {
@@ -43,8 +45,8 @@ impl Code {
         requires { length words.items ≤ 16384 }
         ensures { IfOk result (λ code. code ≡ words.items) }
     {
-        let instrs = instrs_of(alloc, &words)?;
-        Ok(Code { words, instrs })
+        let flat = flat_instrs(alloc, &words)?;
+        Ok(Code { words, flat })
     }
 
     /// How many words it has, at most 16,384.
@@ -68,6 +70,15 @@ impl Code {
         requires { i < length self.now }
         ensures { result ≡ decoded (slice_index self.now i) }
     {
-        self.instrs[i as usize]
+        decode(self.words[i as usize])
+    }
+
+    /// The word at place `i`, in words from 0, laid out for execution.
+    #[inline(always)]
+    pub fn flat(&self, i: u32) -> FlatInstr
+        requires { i < length self.now }
+        ensures { result ≡ flat_of (slice_index self.now i) }
+    {
+        self.flat[i as usize]
     }
 }
