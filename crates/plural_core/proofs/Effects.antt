@@ -1,56 +1,72 @@
--- A decoded instruction does what the row of its word does.
-use Rattle.std.proofs.Common.{ltb, true, length, slice_index, ℕ, ◌≡◌, ◌*◌, ◌/◌, ◌^◌, ◌<◌, List, Some, None, arith, refl, ap, sym, ◌∙◌}
-use Rattle.plural_isa.specs.Fields.{rd, rs1}
-use Rattle.std.specs.Prelude.{option_map}
+-- A word laid out for execution does what the row of the word does.
+use Rattle.std.proofs.Common.{ltb, length, slice_index, ℕ, ◌≡◌, ◌*◌, ◌/◌, ◌^◌, ◌<◌, true, List, [], Option, Some, None, arith, refl, ap, sym, ◌∙◌}
+use Rattle.plural_isa.specs.Fields.{rd}
 use Rattle.plural_isa.specs.Table.{operation_of}
-use Rattle.plural_isa.specs.Decoding.{decoded, instr_of}
+use Rattle.plural_isa.specs.FlatInstrs.{flat_of, mnemonic_of, row_mnemonic, row_imm}
+use Rattle.plural_isa.specs.Fields as f
 use Rattle.plural_isa.specs.declared.table.Operation.{Operation}
 use Rattle.plural_isa.specs.declared.table.Operation.TheVariants as o
-use Rattle.plural_isa.specs.declared.instr.BranchOp.TheVariants as branch
+use Rattle.plural_isa.specs.declared.instr.BranchOp.TheVariants as branching
 use Rattle.plural_isa.specs.declared.instr.LoadOp.TheVariants as load
 use Rattle.plural_isa.specs.declared.instr.StoreOp.TheVariants as store
 use Rattle.plural_isa.specs.declared.instr.ImmOp.TheVariants as imm
 use Rattle.plural_isa.specs.declared.instr.RegOp.TheVariants as reg
-use Rattle.plural_core.specs.Arithmetic.{left_of, right_of, signed_right_of}
-use Rattle.plural_core.specs.Act as a
+use Rattle.plural_isa.specs.declared.flat_instr.FlatInstr.{FlatInstr}
 use Rattle.std.proofs.lemmas.Bool.Decides.{nat_tests}
-use Rattle.plural_core.specs.Act.{act, Act, effect, by_row, next, get}
-use Rattle.plural_core.specs.Execution.{effect_of}
-use Rattle.plural_isa.specs.declared.instr.Instr.{Instr}
+use Rattle.plural_isa.specs.declared.flat_instr.Mnemonic.{Mnemonic}
+use Rattle.plural_core.specs.Act as a
+use Rattle.plural_core.specs.Act.{Act, act, effect, by_row, next}
+use Rattle.plural_core.specs.Turn.{State, Core, turn, turn_of, does, place_of}
+use Rattle.plural_regions.specs.declared.region.Region.{Region}
+use Rattle.plural_core.specs.Execution.{by_mnemonic, effect_of}
 
-same_effect : (m : Operation) (w : ℕ) (x : List ℕ) (pc : ℕ) → w < 2 ^ 32 → effect_of (instr_of m w) x pc ≡ effect m w x pc
-unfolding effect_of
+-- The word w as a word of this row, or of none.
+abbrev laid : Option Operation → ℕ → FlatInstr
+laid row w = record { mnemonic = row_mnemonic row; rd = f.rd w; rs1 = f.rs1 w; rs2 = f.rs2 w; imm = row_imm row w }
+
+same_effect : (m : Operation) (w : ℕ) (x : List ℕ) (pc : ℕ) → w < 2 ^ 32 → by_mnemonic (mnemonic_of m) (laid (Some m) w) x pc ≡ effect m w x pc
 same_effect o.Lui w x pc h = ap (λ v. next x pc (rd w) v) (omega arith)
-same_effect (o.Branch branch.Beq) w x pc h = refl
+same_effect o.Auipc w x pc h = ap (λ v. next x pc (rd w) v) (omega arith)
+same_effect (o.Branch branching.Beq) w x pc h = refl
 same_effect (o.Branch _) w x pc h = refl
 same_effect (o.Load load.Lb) w x pc h = refl
 same_effect (o.Load _) w x pc h = refl
 same_effect (o.Store store.Sb) w x pc h = refl
 same_effect (o.Store _) w x pc h = refl
-same_effect (o.Imm imm.Slli) w x pc h = ap (λ n. next x pc (rd w) (left_of (get x (rs1 w)) n)) (omega arith)
-same_effect (o.Imm imm.Srli) w x pc h = ap (λ n. next x pc (rd w) (right_of (get x (rs1 w)) n)) (omega arith)
-same_effect (o.Imm imm.Srai) w x pc h = ap (λ n. next x pc (rd w) (signed_right_of (get x (rs1 w)) n)) (omega arith)
+same_effect (o.Imm imm.Addi) w x pc h = refl
 same_effect (o.Imm _) w x pc h = refl
 same_effect (o.Reg reg.Add) w x pc h = refl
 same_effect (o.Reg _) w x pc h = refl
 same_effect _ w x pc h = refl
 
--- What a word that decodes does, and one that does not.
-pub same_act : (w : ℕ) (x : List ℕ) (pc : ℕ) (i : Instr) → w < 2 ^ 32 → decoded w ≡ Some i → by_row (operation_of w) w x pc ≡ effect_of i x pc
-same_act w x pc i h e =
-    elim (operation_of w) as (λ q. operation_of w ≡ q → option_map (λ m. instr_of m w) q ≡ Some i → by_row q w x pc ≡ effect_of i x pc) [
-      | None ↦ (λ p e. cc)
-      | Some m ↦ (λ p e. let s : instr_of m w ≡ i = cc in sym (same_effect m w x pc h) ∙ ap (λ j. effect_of j x pc) s)
-    ] refl e
+same_row : (row : Option Operation) (w : ℕ) (x : List ℕ) (pc : ℕ) → w < 2 ^ 32 → by_mnemonic (row_mnemonic row) (laid row w) x pc ≡ by_row row w x pc
+same_row None w x pc h = refl
+same_row (Some m) w x pc h = same_effect m w x pc h
 
-no_act : (w : ℕ) (x : List ℕ) (pc : ℕ) → decoded w ≡ None → by_row (operation_of w) w x pc ≡ a.Trap 2
-no_act w x pc e =
-    elim (operation_of w) as (λ q. option_map (λ m. instr_of m w) q ≡ None → by_row q w x pc ≡ a.Trap 2) [
-      | None ↦ (λ e. refl)
-      | Some m ↦ (λ e. cc)
-    ] e
+-- What the code's word at pc does.
+pub act_is : (code x : List ℕ) (pc w : ℕ) → pc < 4 * length code → w ≡ slice_index code (pc / 4) → w < 2 ^ 32 → act code x pc ≡ effect_of (flat_of w) x pc
+unfolding act effect_of
+act_is code x pc w i e h = let t : ltb pc (4 * length code) ≡ true = grind (arith, nat_tests) in rw (t, ← e) (sym (same_row (operation_of w) w x pc h))
 
--- What the code's word at pc does, where it decodes.
-pub act_is : (code x : List ℕ) (pc w : ℕ) (i : Instr) → pc < 4 * length code → w ≡ slice_index code (pc / 4) → w < 2 ^ 32 → decoded w ≡ Some i → act code x pc ≡ effect_of i x pc
-unfolding act
-act_is code x pc w i h e f d = let t : ltb pc (4 * length code) ≡ true = grind (arith, nat_tests) in rw (t, ← e) (same_act w x pc i f d)
+-- The effect of a word laid out for execution, by its mnemonic.
+pub effect_by : (n : Mnemonic) (i : FlatInstr) (x : List ℕ) (pc : ℕ) → i.mnemonic ≡ n → effect_of i x pc ≡ by_mnemonic n i x pc
+unfolding effect_of
+effect_by n i x pc e = ap (λ n. by_mnemonic n i x pc) e
+
+-- What an effect does is the same over any code.
+same_place : (code : List ℕ) (regions : List Region) (c : Core) (s : State) (m : List ℕ) (act : Act) → does (place_of code regions c) s m act ≡ does (place_of [] regions c) s m act
+same_place code regions c s m (a.Go x pc) = refl
+same_place code regions c s m (a.Read address width sign rd) = refl
+same_place code regions c s m (a.Write address width value) = refl
+same_place code regions c s m a.Finish = refl
+same_place code regions c s m (a.Trap cause) = refl
+
+-- The turn of a core is the effect of the code's word at its pc, laid out for execution.
+pub turn_is : (code : List ℕ) (regions : List Region) (c : Core) (m : List ℕ) (w : ℕ) (i : FlatInstr) → c.state.pc < 4 * length code → w ≡ slice_index code (c.state.pc / 4) → w < 2 ^ 32 → i ≡ flat_of (slice_index code (c.state.pc / 4))
+    → turn_of code regions c m ≡ does (place_of [] regions c) c.state m (effect_of i c.state.registers c.state.pc)
+unfolding turn
+turn_is code regions c m w i h e f d =
+    let x = c.state.registers in
+    let pc = c.state.pc in
+    ap (does (place_of code regions c) c.state m) (act_is code x pc w h e f ∙ ap (λ i. effect_of i x pc) (ap flat_of e ∙ sym d))
+    ∙ same_place code regions c c.state m (effect_of i x pc)

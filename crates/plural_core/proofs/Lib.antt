@@ -1,6 +1,7 @@
 pub mod Effects
 pub mod Lives
+pub mod NoAccesses
 pub mod Footprint
-pub mod Guarded
+pub mod Guards
 pub mod TurnCases
 pub mod LifeLaws

@@ -3,16 +3,17 @@ use Rattle.std.proofs.Common.{ℕ, zero, suc, ◌≡◌, ◌≢◌, ◌+◌, ◌
 use Rattle.std.proofs.Math.Seq.{drop-append_seam}
 use Rattle.std.proofs.Math.ListN.{length-set}
 use Rattle.std.proofs.lemmas.Bool.Decides.{nat_tests}
-use Rattle.plural_core.specs.Turn.{State, Place, Step, Core, outcome_of, turn, spent, does, trapped, loaded, stored, loads_of}
+use Rattle.plural_core.specs.Turn.{State, Place, Step, Core, turn, spent, does, trapped, loaded, stored, loads_of}
 use Rattle.plural_regions.specs.Rights.{may_read, may_write}
 use Rattle.plural_core.specs.Subword.{size_of}
 use Rattle.plural_core.specs.Act.{Act, act, get}
 use Rattle.plural_core.specs.Act as a
 use Rattle.plural_base.specs.Told.{Told, Counted, Expects, Foresees, after, told_after}
 use Rattle.plural_core.specs.Port.{Makes}
+use Rattle.plural_core.specs.Progress.{live, progress_of}
+use Rattle.plural_core.specs.declared.progress.Progress.{Progress}
 use Rattle.plural_core.specs.Life.{unless_over, life, join, stay}
 use Rattle.plural_core.specs.declared.end.End.{End}
-use Rattle.plural_core.specs.declared.hart.Turn.TheVariants as outcome
 use Rattle.plural_core.specs.declared.subword.Width.{Width}
 use Rattle.plural_core.specs.declared.subword.Width.TheVariants.{Byte, Half, Word}
 
@@ -109,7 +110,8 @@ expected_on b p s m None h l g x = tt
 expected_on b p s m (Some stores) h l g x =
     rw (x ∙ ap (λ t. t.stores) (life_on b p s m h l g)) (drop-append_seam (turn p s m).stores _)
 
-after_none : (e : Option (List (ℕ × ℕ))) → e ≡ after 0 e
+-- No store more leaves what is expected.
+pub after_none : (e : Option (List (ℕ × ℕ))) → e ≡ after 0 e
 after_none None = refl
 after_none (Some stores) = refl
 
@@ -168,19 +170,13 @@ module _ {P : Type 0} (told : P → Told) (counts : P → Counted) (stands_for :
       let same : join d t ≡ all = ap (join d) (sym (life_last b p s (told y).words e h l g)) ∙ q in
       (subst (λ (a : Step). Made x z a) same (joined both x y z d t made k), ap (λ a. a.state) (sym same))
 
--- A turn that answers Going left no end.
-pub going_none : (o : Option End) → outcome_of o ≡ outcome.Going → o ≡ None
-going_none None h = refl
-going_none (Some e) h = cc
-
--- A turn that answers an end left this end.
-pub over_some : (o : Option End) (e : End) → outcome_of o ≡ outcome.Over e → o ≡ Some e
-over_some None e h = cc
-over_some (Some x) e h = cc
-
 -- A core is the record of its parts.
 pub core_is : (x : Core) (s : State) (k b : ℕ) → x.state ≡ s → x.k ≡ k → x.budget ≡ b → x ≡ record { state = s; k = k; budget = b }
 core_is x s k b p q r = rw (← p, ← q, ← r) refl
+
+-- A core that goes on is what its parts tell of it.
+pub live_is : (c : Core) (at : Progress) (x : List ℕ) → at ≡ progress_of c → x ≡ c.state.registers → c.state.over ≡ None → live at x ≡ c
+live_is c at x p q o = rw (p, q, ← o) refl
 
 kept : (o : Option End) (x y : Step) (m : List ℕ) → length x.memory ≡ length m → length y.memory ≡ length m → length (unless_over o x y).memory ≡ length m
 kept None x y m h k = h

@@ -5,6 +5,7 @@ pub mod Act
 pub mod Turn
 pub mod Recent
 pub mod Execution
+pub mod Progress
 pub mod Port
 pub mod Life
 pub mod Footprint

@@ -1,17 +1,18 @@
 //! The core: one instance's registers, pc and count, and its turn.
-ghost use Rattle.std.specs.Prelude.{◌≡◌, ℕ, ◌+◌, ◌-◌, ◌*◌, ◌/◌, ◌%◌, ◌<◌, ◌≤◌, Option, None, true, slice_index};
-ghost use Rattle.plural_regions.specs.Rights.{may_read, may_write};
-ghost use Rattle.plural_core.specs.Act.{put, act};
-ghost use Rattle.plural_core.specs.Execution.{seen};
-ghost use Rattle.plural_core.specs.Port.{Makes};
+ghost use Rattle.std.specs.Prelude.{◌≡◌, ℕ, ◌<◌, ◌≤◌, [], None, true, slice_index};
+ghost use Rattle.plural_regions.specs.Rights.{may_read};
 ghost use Rattle.plural_base.specs.Told.{Foresees};
-ghost use Rattle.plural_core.specs.Turn.{Core, going, finished, place_of, turn_of, outcome_of};
+ghost use Rattle.plural_core.specs.Turn.{finished, turn_of};
+ghost use Rattle.plural_core.specs.Progress.{live, core_of, end_of};
+ghost use Rattle.plural_core.specs.Recent.{IsRecent};
+ghost use Rattle.plural_core.specs.Port.{Makes};
 
 use crate::end::End;
-use crate::execute::{Action, Load, Store, execute, register};
-use crate::guard::{Recent, may_read, may_write};
+use crate::execute::register;
+use crate::guard::Recent;
 use crate::port::DataPort;
-use crate::subword::{Width, merged, part, size};
+use crate::progress::{Next, Progress};
+use crate::step::step;
 use plural_isa::{Code, Reg};
 use plural_regions::Region;
 use std::marker::Model;
@@ -38,59 +39,97 @@ pub enum Turn {
     Over(End),
 }
 
+/// The end of `ecall`, which counts as completed if the instance ends with a code.
+#[inline(always)]
+fn finish(at: &mut Progress, registers: &[u32; 32]) -> Turn
+    requires zero { slice_index registers.now 0 ≡ 0 }
+    requires room { at.old.count < 100000000 }
+    ensures { core_of at.new registers.now (end_of result)
+        ≡ record (live at.old registers.now) { state = (finished (live at.old registers.now).state []).state } }
+{
+    let code = register(registers, Reg::of(10));
+    if code > 1 {
+        return Turn::Over(End::Trap {
+            cause: 9,
+            pc: at.pc,
+        });
+    }
+    at.count += 1;
+    Turn::Over(if code == 0 { End::Code0 } else { End::Code1 })
+}
+
+/// One instruction, by the regions that were used last.
+#[inline(always)]
+pub(crate) fn turn_by<P: DataPort>(
+    at: &mut Progress,
+    registers: &mut [u32; 32],
+    code: &Code,
+    regions: &[Region],
+    recent: &mut Recent,
+    port: &mut P,
+) -> Turn
+    requires zero { slice_index registers.old 0 ≡ 0 }
+    requires recent { IsRecent regions.now at.old.k recent.old }
+    requires sound { P.is_sound port.old }
+    requires lawful { (a : ℕ) → may_read regions.now at.old.k a ≡ true → (P.told port.old).lawful a ≡ true }
+    requires loads { (P.counts port.old).reads ≤ at.old.count }
+    requires stores { (P.counts port.old).writes ≤ at.old.count }
+    requires going { at.old.count < at.old.budget }
+    requires limit { at.old.budget ≤ 100000000 }
+    requires expected { Foresees (P.told port.old).expects
+        (turn_of code.now regions.now (live at.old registers.old) (P.told port.old).words).stores }
+    ensures state { core_of at.new registers.new (end_of result) ≡ record (live at.old registers.old)
+        { state = (turn_of code.now regions.now (live at.old registers.old) (P.told port.old).words).state } }
+    ensures port { Makes P.told P.counts P.stands_for P.keeps P.is_sound port.old port.new
+        (turn_of code.now regions.now (live at.old registers.old) (P.told port.old).words) }
+    ensures zero { slice_index registers.new 0 ≡ 0 }
+    ensures recent { IsRecent regions.now at.old.k recent.new }
+    ensures bound { at.new.count ≤ at.new.budget }
+    ensures within { end_of result ≡ None → at.new.count < at.new.budget }
+{
+    match step(*at, registers, code, regions, recent, port) {
+        Next::Go { pc } => {
+            at.pc = pc;
+            at.count += 1;
+            if at.count == at.budget {
+                Turn::Over(End::Exhausted)
+            } else {
+                Turn::Going
+            }
+        }
+        Next::Trap { cause } => Turn::Over(End::Trap { cause, pc: at.pc }),
+        Next::Finish => finish(at, registers),
+    }
+}
+
 /// A core that runs one instance, seen as its state, the instance's number and the budget.
 #[derive(Drop)]
 pub struct Hart {
-    pc: u32,
-    count: u32,
+    at: Progress,
     over: Option<End>,
-    k: u32,
-    budget: u32,
     registers: [u32; 32],
 }
 
 impl Model for Hart {
     ghost use Rattle.std.specs.Prelude.{◌≡◌, ◌≤◌, ◌<◌, Option, None, slice_index};
     ghost use Rattle.plural_core.specs.Turn.{Core};
+    ghost use Rattle.plural_core.specs.Progress.{core_of};
 
     ghost Value = { Core };
 
-    ghost view = { λ h. record {
-      state = record { registers = h.registers; pc = h.pc; count = h.count; over = h.over };
-      k = h.k;
-      budget = h.budget;
-    } };
+    ghost view = { λ h. core_of h.at h.registers h.over };
 
-    ghost invariant = { λ h. (h.budget ≤ 100000000) × (h.count ≤ h.budget) × (h.over ≡ None → h.count < h.budget)
-        × (slice_index h.registers 0 ≡ 0) };
-}
-
-/// The effect of the instruction at pc. The word is read for its range alone, which the instruction doesn't tell.
-#[tactic(auto, unfolding(crate::specs::Act::act))]
-#[inline(always)]
-fn action(code: &Code, registers: &[u32; 32], pc: u32) -> Action
-    requires zero { slice_index registers.now 0 ≡ 0 }
-    ensures { seen registers.now result ≡ act code.now registers.now pc }
-{
-    if pc >= 4 * code.len() {
-        return Action::Trap { cause: 1 };
-    }
-    code.word(pc / 4);
-    match code.instr(pc / 4) {
-        None => Action::Trap { cause: 2 },
-        Some(instr) => execute(instr, registers, pc),
-    }
+    ghost invariant = { λ h. (h.at.budget ≤ 100000000) × (h.at.count ≤ h.at.budget)
+        × (h.over ≡ None → h.at.count < h.at.budget) × (slice_index h.registers 0 ≡ 0) };
 }
 
 impl Hart {
-    ghost use Rattle.std.specs.Prelude.{◌≡◌, ◌<◌, ◌≤◌, ◌+◌, ◌-◌, ℕ, true, [], None, Some, slice_index};
-    ghost use Rattle.plural_regions.specs.Rights.{may_read, may_write};
-    ghost use Rattle.plural_core.specs.Recent.{IsRecent};
+    ghost use Rattle.std.specs.Prelude.{◌≡◌, ◌<◌, ◌≤◌, ◌%◌, ℕ, true, None, Some, slice_index};
+    ghost use Rattle.plural_regions.specs.Rights.{may_read};
     ghost use Rattle.plural_core.specs.Port.{Makes};
     ghost use Rattle.plural_base.specs.Told.{Foresees};
-    ghost use Rattle.plural_core.specs.declared.end.End.TheVariants.{Trap as trap};
-    ghost use Rattle.plural_core.specs.Act.{put, act, Read, Write, Go, Finish};
-    ghost use Rattle.plural_core.specs.Turn.{going, finished, outcome_of, place_of, does, turn_of, start_of};
+    ghost use Rattle.plural_core.specs.Turn.{outcome_of, turn_of, start_of};
+    ghost use Rattle.plural_core.specs.Progress.{core_of, progress_of};
 
     /// The start of an instance: pc at the entry, x10 = k, x11 = q, all other registers 0.
     #[inline(always)]
@@ -104,11 +143,13 @@ impl Hart {
         registers[10] = job.k;
         registers[11] = job.q;
         Hart {
-            pc: job.entry,
-            count: 0,
+            at: Progress {
+                pc: job.entry,
+                count: 0,
+                k: job.k,
+                budget: job.budget,
+            },
             over: None,
-            k: job.k,
-            budget: job.budget,
             registers,
         }
     }
@@ -132,46 +173,12 @@ impl Hart {
         ensures within { self.new.state.over ≡ None → self.new.state.count < self.new.budget }
     {
         let mut recent = Recent::none();
-        self.turn_by(code, regions, &mut recent, port)
-    }
-
-    /// The same, by the regions that were used last.
-    #[tactic(auto, unfolding(crate::specs::Turn::turn))]
-    #[inline(always)]
-    pub(crate) fn turn_by<P: DataPort>(
-        &mut self,
-        code: &Code,
-        regions: &[Region],
-        recent: &mut Recent,
-        port: &mut P,
-    ) -> Turn
-        requires going { self.old.state.over ≡ None }
-        requires recent { IsRecent regions.now self.old.k recent.old }
-        requires sound { P.is_sound port.old }
-        requires lawful { (a : ℕ) → may_read regions.now self.old.k a ≡ true → (P.told port.old).lawful a ≡ true }
-        requires loads { (P.counts port.old).reads ≤ self.old.state.count }
-        requires stores { (P.counts port.old).writes ≤ self.old.state.count }
-        requires expected { Foresees (P.told port.old).expects
-            (turn_of code.now regions.now self.old (P.told port.old).words).stores }
-        ensures state { self.new ≡ record self.old
-            { state = (turn_of code.now regions.now self.old (P.told port.old).words).state } }
-        ensures port { Makes P.told P.counts P.stands_for P.keeps P.is_sound port.old port.new
-            (turn_of code.now regions.now self.old (P.told port.old).words) }
-        ensures recent { IsRecent regions.now self.old.k recent.new }
-        ensures outcome { result ≡ outcome_of self.new.state.over }
-        ensures within { self.new.state.over ≡ None → self.new.state.count < self.new.budget }
-    {
-        match action(code, &self.registers, self.pc) {
-            Action::Go { rd, value, pc } => self.go(rd, value, pc),
-            Action::Read(load) => self.read(regions, recent, port, load),
-            Action::Write(store) => self.write(regions, recent, port, store),
-            Action::Finish => self.finish(),
-            Action::Trap { cause } => self.trap(cause),
+        let Hart { at, registers, .. } = self;
+        let turn = turn_by(at, registers, code, regions, &mut recent, port);
+        if let Turn::Over(end) = turn {
+            self.over = Some(end);
         }
-        match self.over {
-            None => Turn::Going,
-            Some(end) => Turn::Over(end),
-        }
+        turn
     }
 
     /// How many instructions have completed.
@@ -179,140 +186,39 @@ impl Hart {
     pub fn counted(&self) -> u32
         ensures { result ≡ self.now.state.count }
     {
-        self.count
+        self.at.count
     }
 
-    /// An instruction completes: writes a register and goes to a pc.
+    /// Where the instance stands.
     #[inline(always)]
-    fn go(&mut self, rd: Reg, value: u32, pc: u32)
-        requires { self.old.state.over ≡ None }
-        ensures { self.new ≡ record self.old
-            { state = going (place_of [] [] self.old) self.old.state (put self.old.state.registers rd value) pc } }
+    pub(crate) fn progress(&self) -> Progress
+        ensures value { result ≡ progress_of self.now }
+        ensures limit { result.budget ≤ 100000000 }
     {
-        let number = rd.number();
-        if number != 0 {
-            self.registers[number as usize] = value;
-        }
-        self.pc = pc;
-        self.count += 1;
-        if self.count == self.budget {
-            self.over = Some(End::Exhausted);
-        }
+        self.at
     }
 
-    /// An instruction traps.
+    /// The registers.
     #[inline(always)]
-    fn trap(&mut self, cause: u8)
-        requires { self.old.state.over ≡ None }
-        ensures { self.new ≡ record self.old
-            { state = record self.old.state { over = Some (trap cause self.old.state.pc) } } }
+    pub(crate) fn registers(&self) -> [u32; 32]
+        ensures value { result ≡ self.now.state.registers }
+        ensures zero { slice_index result 0 ≡ 0 }
     {
-        self.over = Some(End::Trap { cause, pc: self.pc });
+        self.registers
     }
 
-    /// `ecall`.
+    /// The core of an instance that stands here with these registers, and has this end.
     #[inline(always)]
-    fn finish(&mut self)
-        requires { self.old.state.over ≡ None }
-        ensures { self.new ≡ record self.old { state = (finished self.old.state []).state } }
+    pub(crate) fn ended(at: Progress, registers: [u32; 32], end: End) -> Hart
+        requires limit { at.budget ≤ 100000000 }
+        requires bound { at.count ≤ at.budget }
+        requires zero { slice_index registers 0 ≡ 0 }
+        ensures { result ≡ core_of at registers (Some end) }
     {
-        let code = register(&self.registers, Reg::of(10));
-        if code > 1 {
-            self.over = Some(End::Trap {
-                cause: 9,
-                pc: self.pc,
-            });
-        } else {
-            self.count += 1;
-            self.over = Some(if code == 0 { End::Code0 } else { End::Code1 });
-        }
-    }
-
-    /// A load under the guard.
-    #[inline(always)]
-    fn read<P: DataPort>(
-        &mut self,
-        regions: &[Region],
-        recent: &mut Recent,
-        port: &mut P,
-        load: Load,
-    )
-        requires going { self.old.state.over ≡ None }
-        requires recent { IsRecent regions.now self.old.k recent.old }
-        requires sound { P.is_sound port.old }
-        requires lawful { (a : ℕ) → may_read regions.now self.old.k a ≡ true → (P.told port.old).lawful a ≡ true }
-        requires loads { (P.counts port.old).reads ≤ self.old.state.count }
-        ensures state { self.new ≡ record self.old {
-          state = (does (place_of [] regions.now self.old) self.old.state (P.told port.old).words
-              (Read load.address load.width load.sign load.rd)).state;
-        } }
-        ensures recent { IsRecent regions.now self.old.k recent.new }
-        ensures port { Makes P.told P.counts P.stands_for P.keeps P.is_sound port.old port.new
-            (does (place_of [] regions.now self.old) self.old.state (P.told port.old).words
-            (Read load.address load.width load.sign load.rd)) }
-    {
-        let Load {
-            width,
-            sign,
-            address,
-            rd,
-        } = load;
-        if address % size(width) != 0 {
-            self.trap(4);
-        } else if !may_read(regions, recent, self.k, address / 4) {
-            self.trap(5);
-        } else {
-            let word = port.load(address / 4);
-            let value = part(width, sign, word, address);
-            let pc = self.pc.wrapping_add(4);
-            self.go(rd, value, pc);
-        }
-    }
-
-    /// A store under the guard; of less than a word it loads its word first.
-    #[inline(always)]
-    fn write<P: DataPort>(
-        &mut self,
-        regions: &[Region],
-        recent: &mut Recent,
-        port: &mut P,
-        store: Store,
-    )
-        requires going { self.old.state.over ≡ None }
-        requires recent { IsRecent regions.now self.old.k recent.old }
-        requires sound { P.is_sound port.old }
-        requires lawful { (a : ℕ) → may_read regions.now self.old.k a ≡ true → (P.told port.old).lawful a ≡ true }
-        requires loads { (P.counts port.old).reads ≤ self.old.state.count }
-        requires stores { (P.counts port.old).writes ≤ self.old.state.count }
-        requires expected { Foresees (P.told port.old).expects
-            (does (place_of [] regions.now self.old) self.old.state (P.told port.old).words
-            (Write store.address store.width store.value)).stores }
-        ensures state { self.new ≡ record self.old {
-          state = (does (place_of [] regions.now self.old) self.old.state (P.told port.old).words
-              (Write store.address store.width store.value)).state;
-        } }
-        ensures recent { IsRecent regions.now self.old.k recent.new }
-        ensures port { Makes P.told P.counts P.stands_for P.keeps P.is_sound port.old port.new
-            (does (place_of [] regions.now self.old) self.old.state (P.told port.old).words
-            (Write store.address store.width store.value)) }
-    {
-        let Store {
-            width,
-            address,
-            value,
-        } = store;
-        if address % size(width) != 0 {
-            self.trap(6);
-        } else if !may_write(regions, recent, self.k, address / 4) {
-            self.trap(7);
-        } else {
-            let word = match width {
-                Width::Word => value,
-                _ => merged(width, port.load(address / 4), address, value),
-            };
-            port.store(address / 4, word);
-            let pc = self.pc.wrapping_add(4);
-            self.go(Reg::of(0), 0, pc);
+        Hart {
+            at,
+            over: Some(end),
+            registers,
         }
     }
 }

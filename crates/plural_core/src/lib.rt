@@ -6,6 +6,7 @@
 //! Stands on `plural_isa` and `plural_regions`. `plural_serial` runs instances over a cache.
 #![tactic(auto)]
 
+mod access;
 mod arithmetic;
 mod end;
 mod execute;
@@ -14,6 +15,8 @@ mod hart;
 pub mod laws;
 mod life;
 mod port;
+mod progress;
+mod step;
 mod subword;
 
 pub use end::End;

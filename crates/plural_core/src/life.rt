@@ -7,7 +7,7 @@ ghost use Rattle.plural_core.specs.Life.{rest_of};
 
 use crate::end::End;
 use crate::guard::Recent;
-use crate::hart::{Hart, Turn};
+use crate::hart::{Hart, Turn, turn_by};
 use crate::port::DataPort;
 use plural_isa::Code;
 use plural_regions::Region;
@@ -31,10 +31,15 @@ pub fn run<P: DataPort>(hart: &mut Hart, code: &Code, regions: &[Region], port: 
     ensures words { length (P.told port.new).words ≡ length (P.told port.old).words }
 {
     let mut recent = Recent::none();
+    let mut at = hart.progress();
+    let mut registers = hart.registers();
     loop {
-        match hart.turn_by(code, regions, &mut recent, port) {
+        match turn_by(&mut at, &mut registers, code, regions, &mut recent, port) {
             Turn::Going => {}
-            Turn::Over(end) => return end,
+            Turn::Over(end) => {
+                *hart = Hart::ended(at, registers, end);
+                return end;
+            }
         }
     }
 }

@@ -3,7 +3,7 @@ use Rattle.std.proofs.Common.{◌≡◌, ◌≢◌, ℕ, ◌<◌, Bool, true, fa
 use Rattle.std.proofs.lemmas.Bool.{both_ways, cases_eq, false_from_ne_true}
 use Rattle.plural_regions.specs.Rights.{may_read, may_write}
 use Rattle.plural_regions.proofs.Regions.{may_read_from_write, reads_iff, writes_iff}
-use Rattle.plural_core.proofs.Guarded.{guarded_life}
+use Rattle.plural_core.proofs.Guards.{guarded_life}
 use Rattle.plural_map.specs.Limits.{IsMap}
 use Rattle.plural_reach.specs.Chains.{Before, comes_before}
 use Rattle.plural_reach.specs.Branches.{Exclusive}

@@ -4,7 +4,7 @@ use Rattle.plural_map.specs.Value.{no_task}
 use Rattle.plural_map.specs.Limits.{IsMap}
 use Rattle.plural_core.specs.Footprint.{Agrees}
 use Rattle.plural_core.proofs.Footprint.{alike_life}
-use Rattle.plural_core.proofs.Guarded.{guarded_life}
+use Rattle.plural_core.proofs.Guards.{guarded_life}
 use Rattle.plural_serial.specs.Program.{ProgramValue, task_at, place_at, start_state}
 use Rattle.plural_serial.specs.Footprint.{AgreeFor, Footprint}
 

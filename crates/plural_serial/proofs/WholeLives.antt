@@ -8,7 +8,7 @@ use Rattle.plural_regions.proofs.Regions.{may_read_from_write}
 use Rattle.plural_core.specs.Ends.{IsEnd}
 use Rattle.plural_core.specs.Stores.{sets}
 use Rattle.plural_core.specs.declared.end.End.{End}
-use Rattle.plural_core.proofs.Guarded.{guarded_life}
+use Rattle.plural_core.proofs.Guards.{guarded_life}
 use Rattle.plural_core.proofs.Lives.{life_ends, words_kept}
 use Rattle.plural_core.proofs.LifeLaws.{set_life, few_life, causes_known}
 use Rattle.plural_map.specs.Limits.{IsMap}

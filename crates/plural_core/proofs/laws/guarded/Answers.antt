@@ -1,4 +1,4 @@
-use Rattle.plural_core.proofs.Guarded.{guarded_life}
+use Rattle.plural_core.proofs.Guards.{guarded_life}
 use Rattle.plural_core.proofs.laws.guarded.Goals as goal
 
 -- The answer meets the contract.
