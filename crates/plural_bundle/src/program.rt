@@ -2,6 +2,7 @@
 
 ghost use Rattle.std.specs.Prelude.{◌≡◌, ◌%◌, map, IfOk};
 ghost use Rattle.std.specs.List.{AllByRecursion};
+ghost use Rattle.plural_serial.specs.Program.{IsProgram};
 ghost use Rattle.plural_bundle.specs.Value.{pc_of, program_with};
 
 use plural_asm::{Label, Object};
@@ -38,7 +39,8 @@ fn entries(alloc: Global, tasks: &[Task], labels: &[Label]) -> Result<Vec<u32>, 
 /// The program whose tasks begin at the labels that their entries name.
 pub(crate) fn program(alloc: Global, map: Map, object: Object) -> Result<Program, Memory>
     requires { AllByRecursion (λ l. l.pc % 4 ≡ 0) object.1 }
-    ensures { IfOk result (λ p. p ≡ program_with map object.0 object.1) }
+    ensures value { IfOk result (λ p. p ≡ program_with map object.0 object.1) }
+    ensures program { IfOk result IsProgram }
 {
     let entries = entries(alloc, map.tasks(), object.labels.as_slice())?;
     Ok(Program::of(map, object.code, entries))

@@ -2,6 +2,7 @@
 
 ghost use Rattle.std.specs.Prelude.{◌≡◌, ◌≤◌, ◌%◌, length, MatchResult, IfOk};
 ghost use Rattle.plural_bytes.specs.Spelled.{text_lines};
+ghost use Rattle.plural_serial.specs.Program.{IsProgram};
 ghost use Rattle.plural_bundle.specs.Value.{bundle_of};
 ghost use Rattle.plural_bundle.specs.Answer.{IsBundle, Faults};
 
@@ -31,6 +32,7 @@ pub fn read_bundle(
     ensures answer { MatchResult result
         (λ b. IsBundle (text_lines input.now) (text_lines lines.now) end × (b ≡ bundle_of (text_lines lines.now)))
         (Faults (text_lines input.now) (text_lines lines.now) end) }
+    ensures program { IfOk result (λ b. IsProgram b.program) }
     ensures image { IfOk result (λ b. length b.image ≡ b.program.map.words) }
     ensures whole { IfOk result (λ b. length b.image % 8 ≡ 0) }
     ensures small { IfOk result (λ b. length b.image ≤ 1048576) }

@@ -42,7 +42,8 @@ any_at (x ∷ xs) e ys h = ap (λ b. is_end x || b) (any_at xs e ys h) ∙ or_tr
 part_none : (all : List TextLine) → HasNone is_end all → bundle_part all ≡ all
 part_none all h = take_all (position_or_len is_end all + 1) all (omega (arith, none_found is_end all (position_none is_end all h)))
 
-part_at : (xs : List TextLine) (e : TextLine) (out : List TextLine) → HasNone is_end xs → is_end e ≡ true → bundle_part (xs ++ e ∷ out) ≡ xs ++ e ∷ []
+-- The bundle's lines end with the first that is an end.
+pub part_at : (xs : List TextLine) (e : TextLine) (out : List TextLine) → HasNone is_end xs → is_end e ≡ true → bundle_part (xs ++ e ∷ out) ≡ xs ++ e ∷ []
 part_at xs e out none h =
     ap (λ n. take (n + 1) (xs ++ e ∷ out)) (place_at is_end xs e out none h)
     ∙ ap (take (length xs + 1)) (sym (append_assoc xs (e ∷ []) out))

@@ -8,6 +8,7 @@ pub use Rattle.plural_map_text.specs.Print as MapPrint
 pub use Rattle.plural_asm.specs.Words
 pub use Rattle.plural_asm.specs.Rules
 pub use Rattle.plural_asm.specs.WordText
+pub use Rattle.plural_serial.specs.Program
 pub use Rattle.plural_serial.specs.Serial
 pub use Rattle.plural_serial.specs.Answer as SerialAnswer
 pub use Rattle.plural_trace.specs.SerialLog

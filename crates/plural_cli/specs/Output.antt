@@ -47,9 +47,11 @@ pub record IsAnswer (request : Request) (bytes : List ℕ) (status : ℕ) (text 
   pub too_long : limit_of request < length bytes → (status ≡ 3) × (text ≡ too_long_of request)
   pub answered : length bytes ≤ limit_of request → Answers request bytes status text
 
--- The answer of a request to what a source held, if the source told it.
-abbrev pub AnswersHeld : Request → (left : Option (List ℕ)) (status : ℕ) (text : List ℕ) → Type 0
-AnswersHeld request left status text = IfSome left (λ bytes. IsAnswer request bytes status text)
+-- The answer of a request to what a source held: to some bytes, which are those that the source held if it told them.
+pub record AnswersHeld (request : Request) (left : Option (List ℕ)) (status : ℕ) (text : List ℕ) : Type 0 where
+  pub bytes : List ℕ
+  pub held : IfSome left (λ all. all ≡ bytes)
+  pub answer : IsAnswer request bytes status text
 
 -- A status that tells of the input, and of nothing outside.
 pub record IsTold (status : ℕ) : Type 0 where
@@ -76,18 +78,19 @@ pub record Writes (status : ℕ) (text : List ℕ) (result : ℕ) (before after 
   pub whole : result ≢ 6 → (result ≡ status) × Appends before after text
   pub failed : result ≡ 6 → AppendsPrefix before after text
 
--- The answer of a request to what a source held is written, unless the call ends with status 5 or 7.
-abbrev pub WritesAnswer : Request → (left : Option (List ℕ)) (result : ℕ) (before after : Option (List ℕ)) → Type 0
-WritesAnswer request left result before after =
-    result ≢ 5 → result ≢ 7 → IfSome left
-    (λ bytes. (status : ℕ) × ((text : List ℕ) ×
-    (IsAnswer request bytes status text × Writes status text result before after)))
+-- The answer of a request to what a source held is written.
+pub record WritesAnswer (request : Request) (left : Option (List ℕ)) (result : ℕ) (before after : Option (List ℕ))
+    : Type 0 where
+  pub status : ℕ
+  pub text : List ℕ
+  pub answer : AnswersHeld request left status text
+  pub writes : Writes status text result before after
 
--- The answer of the request that the words ask for is written.
+-- The answer of the request that the words ask for is written, unless the call ends with status 5 or 7.
 abbrev pub AnswersRequest : List (String Global) → (left : Option (List ℕ)) (result : ℕ)
     (before after : Option (List ℕ)) → Type 0
 AnswersRequest words left result before after =
-    (request : Request) → Asks words request → WritesAnswer request left result before after
+    (request : Request) → Asks words request → result ≢ 5 → result ≢ 7 → WritesAnswer request left result before after
 
 -- The bundle of the seed that the words ask for is written, with status 0, unless the call ends with status 7.
 abbrev pub MakesBundle : List (String Global) → (result : ℕ) (before after : Option (List ℕ)) → Type 0

@@ -1,6 +1,7 @@
 -- What was read of an input that has to be a bundle.
 use Rattle.std.specs.Prelude.{ℕ, ◌≡◌, ◌≤◌, ◌%◌, List, length}
 use Rattle.plural_bytes.specs.Lines.{TextLine, content_lines}
+use Rattle.plural_serial.specs.Program.{IsProgram}
 use Rattle.plural_bundle.specs.Value.{BundleValue, bundle_of}
 use Rattle.plural_bundle.specs.Answer.{IsBundle}
 use Rattle.plural_cli.specs.Lines.{line_after, IsFaulty}
@@ -11,6 +12,7 @@ use Rattle.plural_cli.specs.declared.reading.Reading.TheVariants.{Whole, Faulty}
 pub record IsWhole (input lines : List TextLine) (end : ℕ) (b : BundleValue) : Type 0 where
   pub bundle : IsBundle input lines end
   pub value : b ≡ bundle_of lines
+  pub program : IsProgram b.program
   pub image : length b.image ≡ b.program.map.words
   pub rows : length b.image % 8 ≡ 0
   pub small : length b.image ≤ 1048576

@@ -3,6 +3,7 @@ use Rattle.std.specs.Prelude.{ℕ, ◌≡◌, ◌⊎◌, List, Option, if◌then
 use Rattle.std.specs.List.{list_any}
 use Rattle.plural_map.specs.declared.outcome.Outcome.{Outcome}
 use Rattle.plural_map.specs.Decisions.{is_failed}
+use Rattle.plural_serial.specs.Program.{IsProgram, IsMemory}
 use Rattle.plural_serial.specs.Serial.{serial_of}
 use Rattle.plural_serial.specs.Answer.{AnswerValue, IsSerial}
 use Rattle.plural_trace.specs.SerialLog.{serial_log}
@@ -16,11 +17,13 @@ use Rattle.plural_cli.specs.Check.{IsClashing}
 abbrev pub status_of : List (Option Outcome) → ℕ
 status_of outcomes = if list_any is_failed outcomes then 1 else 0
 
--- The answer of a serial run. The status tells whether a task is failed. The text spells the log of the run, on one
--- core and with a pair of tickets for each instance in turn, and the last memory.
+-- The answer of a serial run of a program. The status tells whether a task is failed. The text spells the log of the
+-- run, on one core and with a pair of tickets for each instance in turn, and the last memory, which is one of the map.
 pub record IsRan (b : BundleValue) (status : ℕ) (text : List ℕ) : Type 0 where
+  pub program : IsProgram b.program
   pub run : AnswerValue
   pub serial : IsSerial b.program b.image run
+  pub memory : IsMemory b.program.map run.image
   pub status_is : status ≡ status_of (serial_of b.program b.image).outcomes
   pub text_is : text ≡ output_text b.program.map (serial_log run) run.image
 

@@ -3,6 +3,7 @@
 ghost use Rattle.std.specs.Prelude.{◌≡◌, ◌≤◌, ◌%◌, length, map, Some, IfOk};
 ghost use Rattle.std.specs.List.{list_any};
 ghost use Rattle.plural_map.specs.Decisions.{is_failed};
+ghost use Rattle.plural_serial.specs.Program.{IsProgram};
 ghost use Rattle.plural_cli.specs.Output.{IsTold};
 ghost use Rattle.plural_cli.specs.Run.{status_of, IsRan, IsRunOf, IsSerialAnswer, IsRunAnswer};
 
@@ -38,6 +39,7 @@ fn status_of(outcomes: &[Outcome]) -> u8
 
 /// Runs the program of a bundle, and answers its status, its log and the last memory.
 fn ran(alloc: Global, bundle: &Bundle) -> Result<Answer, Memory>
+    requires program { IsProgram bundle.now.program }
     requires words { length bundle.now.image ≡ bundle.now.program.map.words }
     requires whole { length bundle.now.image % 8 ≡ 0 }
     requires small { length bundle.now.image ≤ 1048576 }
@@ -54,6 +56,7 @@ fn ran(alloc: Global, bundle: &Bundle) -> Result<Answer, Memory>
 
 /// Runs the program of a bundle without a clash, and tells the first clash of another.
 fn checked_and_ran(alloc: Global, bundle: &Bundle) -> Result<Answer, Memory>
+    requires program { IsProgram bundle.now.program }
     requires words { length bundle.now.image ≡ bundle.now.program.map.words }
     requires whole { length bundle.now.image % 8 ≡ 0 }
     requires small { length bundle.now.image ≤ 1048576 }

@@ -31,7 +31,8 @@ fn finish<K: Sink>(sink: &mut K, status: u8, text: &[u8]) -> u8
 
 /// Reads the source, answers the request on what it holds, and writes the answer.
 fn obey<S: Source, K: Sink>(alloc: Global, request: Request, source: &mut S, sink: &mut K) -> u8
-    ensures answer { WritesAnswer request (S.left source.old) result (K.holds sink.old) (K.holds sink.new) }
+    ensures answer { result ≢ 5 → result ≢ 7
+        → WritesAnswer request (S.left source.old) result (K.holds sink.old) (K.holds sink.new) }
     ensures end { IsOfWhole result → IsAtEnd (S.left source.new) }
     ensures faulty_end { result ≡ 3 → ReadsToEnd request (S.left source.old) (S.left source.new) }
     ensures words { result ≢ 2 }
@@ -73,6 +74,7 @@ pub fn plural<R: Threads + Sync, S: Source, K: Sink, G: Gate + Sync>(
     _gate: &G,
 ) -> u8
     // A request: the status and the whole text of its answer to what the source held; or 6 and a prefix of this text.
+    // If the source doesn't tell what it holds, there are bytes of which this is the answer.
     ensures answer { AnswersRequest words.now (S.left source.old) result (K.holds sink.old) (K.holds sink.new) }
     ensures end { (r : Request) → Asks words.now r → IsOfWhole result → IsAtEnd (S.left source.new) }
     ensures faulty_end { ReadsFaulty words.now result (S.left source.old) (S.left source.new) }

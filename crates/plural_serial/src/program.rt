@@ -29,7 +29,8 @@ impl Program {
     /// The program of a map, its code and the pc at which each task begins, in bytes.
     pub fn of(map: Map, code: Code, entries: Vec<u32>) -> Program
         requires { HasEntries (record { map = map; code = code; entries = entries.items }) }
-        ensures { result ≡ record { map = map; code = code; entries = entries.items } }
+        ensures value { result ≡ record { map = map; code = code; entries = entries.items } }
+        ensures program { IsProgram result }
     {
         read_code(&code);
         read_each(&entries);

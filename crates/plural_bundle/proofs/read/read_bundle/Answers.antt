@@ -124,7 +124,7 @@ returns-clause-answer c =
     let w = c.words.ensures.value ∙ ap (λ (x : MapValue). x.words) tasks.1 in
     let words = value_passed _ _ _ _ c.read_image.ensures c.in_ok-words.ensures in (
       is_bundle i c.args.end c.words.result w words.0 c.in_ok-after_header-4.ensures.answer c.in_ok-nothing_after.ensures,
-      value_is i c.words.result _ _ _ _ _ c.words.ensures.value tasks.1 object.1 object.2 c.in_ok-program.ensures words.1,
+      value_is i c.words.result _ _ _ _ _ c.words.ensures.value tasks.1 object.1 object.2 c.in_ok-program.ensures.value words.1,
     )
 
 -- The answer meets the clause `image`.
@@ -132,7 +132,7 @@ pub returns-clause-image : goal.returns-clause-image
 returns-clause-image c =
     let words = value_passed _ _ _ _ c.read_image.ensures c.in_ok-words.ensures in
     let n = ap length words.1 ∙ image_length c.words.result _ words.0 ∙ c.words.ensures.value in
-    n ∙ sym (ap (λ (p : ProgramValue). p.map.words) c.in_ok-program.ensures)
+    n ∙ sym (ap (λ (p : ProgramValue). p.map.words) c.in_ok-program.ensures.value)
 
 -- The answer meets the clause `whole`.
 pub returns-clause-whole : goal.returns-clause-whole
