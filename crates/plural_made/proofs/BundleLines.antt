@@ -11,10 +11,12 @@ use Rattle.plural_generator.specs.Kernels.{kernel_text}
 use Rattle.plural_generator.specs.Draws.{made_image}
 use Rattle.plural_generator.specs.Text.{made_text}
 use Rattle.plural_bundle.specs.Answer.{IsBundle}
-use Rattle.plural_bundle.specs.Value.{program_with, bundle_of}
+use Rattle.plural_bundle.specs.Value.{BundleValue, program_with, bundle_of}
 use Rattle.plural_bundle.specs.Laws.{AreGood, lines_of}
 use Rattle.plural_bundle.proofs.BundleParts.{parts_make_a_bundle}
-use Rattle.plural_made.specs.Laws.{made_kernels, made_bundle, MadeIsRead}
+use Rattle.plural_crew.specs.Clashes.{IsAccepted}
+use Rattle.plural_generator.proofs.NoClash.{made_accepted}
+use Rattle.plural_made.specs.Laws.{made_kernels, made_bundle, MadeIsRead, MadeIsAccepted}
 use Rattle.plural_made.proofs.LineNumbers.{lines_again}
 use Rattle.plural_made.proofs.TextLines.{parts_with, cut}
 use Rattle.plural_made.proofs.ImageLines.{images, images_read}
@@ -56,3 +58,7 @@ made_is_read seed end =
     let law = parts_make_a_bundle parts [] end (good seed at_kernels at_image at_end) in
     let bundle : IsBundle (lines_of parts) (lines_of parts) end = subst (λ input. IsBundle input (lines_of parts) end) (append-nil (lines_of parts)) law.0 in
     (subst (λ ls. IsBundle ls ls end) (sym lines) bundle, ap bundle_of lines ∙ law.1 ∙ value seed (at_kernels + 1) (at_image + 1))
+
+-- The map that they spell has no clash.
+pub made_is_accepted : MadeIsAccepted
+made_is_accepted seed = subst (λ (b : BundleValue). IsAccepted b.program.map.tasks) (sym (made_is_read seed 0).1) made_accepted

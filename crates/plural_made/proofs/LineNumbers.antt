@@ -59,7 +59,7 @@ fold_texts f a [] = refl
 fold_texts f a (l ∷ ls) = fold_texts f (f a l.1) ls
 
 -- A fold over the texts is the same over lines of the same texts.
-fold_again : {A : Type 0} (f : A → List ℕ → A) (a : A) (lines others : List TextLine) → texts lines ≡ texts others → fold (λ a l. f a l.1) a lines ≡ fold (λ a l. f a l.1) a others
+pub fold_again : {A : Type 0} (f : A → List ℕ → A) (a : A) (lines others : List TextLine) → texts lines ≡ texts others → fold (λ a l. f a l.1) a lines ≡ fold (λ a l. f a l.1) a others
 fold_again f a lines others e = fold_texts f a lines ∙ ap (fold f a) e ∙ sym (fold_texts f a others)
 
 -- The same texts are as many lines.

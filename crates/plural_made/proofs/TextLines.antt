@@ -39,7 +39,7 @@ pub ends_nothing : EndsLine []
 ends_nothing rest = refl
 
 -- Two texts that end their lines do so together.
-ends_both : (s t : List ℕ) → EndsLine s → EndsLine t → EndsLine (s ++ t)
+pub ends_both : (s t : List ℕ) → EndsLine s → EndsLine t → EndsLine (s ++ t)
 ends_both s t e f rest = ap pieces (append_assoc s t rest) ∙ e (t ++ rest) ∙ ap (λ x. pieces s ++ x) (f rest) ∙ sym (append_assoc (pieces s) (pieces t) (pieces rest)) ∙ ap (λ x. x ++ pieces rest) (sym (e t))
 
 -- Texts that end their lines do so all together.
@@ -55,13 +55,15 @@ enumerate_append n (x ∷ xs) ys =
     let e : n + 1 + length xs ≡ n + length (x ∷ xs) = omega arith in
     ap (λ zs. (n, x) ∷ zs) (enumerate_append (n + 1) xs ys ∙ ap (λ m. enumerate_from (n + 1) xs ++ enumerate_from m ys) e)
 
-content_append : (n : ℕ) (ps qs : List (List ℕ)) → content_from n (ps ++ qs) ≡ content_from n ps ++ content_from (n + length ps) qs
+-- The content lines among some pieces, and others after them.
+pub content_append : (n : ℕ) (ps qs : List (List ℕ)) → content_from n (ps ++ qs) ≡ content_from n ps ++ content_from (n + length ps) qs
 content_append n ps qs =
     let f : TextLine → TextLine = λ l. (l.0, content l.1) in
     let p = λ (l : TextLine). has_text l.1 in
     ap (λ ls. filter p (map f ls)) (enumerate_append n ps qs) ∙ ap (filter p) (map-append f (enumerate_from n ps) (enumerate_from (n + length ps) qs)) ∙ filter-append p (map f (enumerate_from n ps)) (map f (enumerate_from (n + length ps) qs))
 
-lines_both : (n : ℕ) (s t : List ℕ) → EndsLine s → lines_from n (s ++ t) ≡ lines_from n s ++ lines_from (n + length (pieces s)) t
+-- The content lines of a text that ends its lines, and of one that follows it.
+pub lines_both : (n : ℕ) (s t : List ℕ) → EndsLine s → lines_from n (s ++ t) ≡ lines_from n s ++ lines_from (n + length (pieces s)) t
 lines_both n s t e = ap (content_from n) (e t) ∙ content_append n (pieces s) (pieces t)
 
 -- ---- a whole bundle
@@ -84,7 +86,8 @@ parts_with maps kernels words at_kernels at_image at_end = record {
   at_end = at_end;
 }
 
-image_cut : (n end : ℕ) (words : List ℕ) → EndsLine words → end ≡ n + 1 + length (pieces words)
+-- The content lines of an image's text between its header and the header of the end.
+pub image_cut : (n end : ℕ) (words : List ℕ) → EndsLine words → end ≡ n + 1 + length (pieces words)
     → lines_from n (codes "[image]\n" ++ (words ++ codes "[end]\n")) ≡ (n, codes "[image]") ∷ (lines_from (n + 1) words ++ (end, codes "[end]") ∷ [])
 image_cut n end words e h =
     ap (λ x. (n, codes "[image]") ∷ x) (lines_both (n + 1) words (codes "[end]\n") e) ∙ ap (λ (m : ℕ). (n, codes "[image]") ∷ (lines_from (n + 1) words ++ (m, codes "[end]") ∷ [])) (sym h)

@@ -2,6 +2,7 @@
 use Rattle.std.specs.Prelude.{◌≡◌, ℕ, List, [], ◌∷◌, length}
 use Rattle.plural_bytes.specs.Lines.{TextLine, content_lines}
 use Rattle.plural_asm.specs.Words.{code_of, labels_of}
+use Rattle.plural_crew.specs.Clashes.{IsAccepted}
 use Rattle.plural_serial.specs.Program.{ProgramValue}
 use Rattle.plural_generator.specs.Tasks.{made_map}
 use Rattle.plural_generator.specs.Kernels.{kernel_text}
@@ -34,3 +35,7 @@ MadeIsRead =
 -- The code of a made bundle has 78 words, and its tasks begin at these bytes of it, by their numbers.
 abbrev pub MadeCode : Type 0
 MadeCode = (length made_program.code ≡ 78) × (made_program.entries ≡ 0 ∷ 100 ∷ 180 ∷ 240 ∷ 260 ∷ 280 ∷ [])
+
+-- The map that the lines of a seed spell has no clash, for every seed.
+abbrev pub MadeIsAccepted : Type 0
+MadeIsAccepted = (seed : ℕ) → IsAccepted (bundle_of (made_lines seed)).program.map.tasks

@@ -1,5 +1,6 @@
 pub use Rattle.plural_bytes.specs.Lines
 pub use Rattle.plural_asm.specs.Words
+pub use Rattle.plural_crew.specs.Clashes
 pub use Rattle.plural_serial.specs.Program
 pub use Rattle.plural_generator.specs.Tasks
 pub use Rattle.plural_generator.specs.Kernels
