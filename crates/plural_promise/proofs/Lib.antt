@@ -1,0 +1,13 @@
+pub mod OneFault
+pub mod RuleKinds
+pub mod OneClash
+pub mod OneRun
+pub mod OneAnswer
+pub mod WholeCalls
+pub mod LogText
+pub mod BundleMaps
+pub mod OutputLines
+pub mod TextLengths
+pub mod RunOutputs
+pub mod LineEnds
+pub mod VerifiedRuns
