@@ -1,6 +1,7 @@
 -- A serial run is one, and so is the verdict on a log.
 use Rattle.std.proofs.Common.{◌≡◌, ℕ, ◌≤◌, List, [], ◌∷◌, map, Some, refl, ap, sym, subst, ◌∙◌, arith, if◌then◌else◌, length}
 use Rattle.std.specs.Prelude.{◌==◌}
+use Rattle.std.proofs.lemmas.List.{length-map}
 use Rattle.plural_map.specs.declared.outcome.Outcome.{Outcome}
 use Rattle.plural_serial.specs.Program.{ProgramValue}
 use Rattle.plural_serial.specs.Answer.{AnswerValue, IsSerial}
@@ -9,7 +10,8 @@ use Rattle.plural_trace.specs.Logs.{LogValue}
 use Rattle.plural_trace.specs.declared.verdict.Verdict.{Verdict}
 use Rattle.plural_trace.specs.declared.verdict.Verdict.TheVariants as verdict
 use Rattle.plural_trace.specs.Verdicts as verdicts
-use Rattle.plural_trace.specs.Verdicts.{Expected, expected_of, Rule, Fails, IsVerdict, IsFirstFailure}
+use Rattle.plural_trace.specs.Verdicts.{Expected, expected_of, Rule, Fails, NoneFails, IsLegal, IsVerdict, IsFirstFailure}
+use Rattle.plural_trace.proofs.Legality.{legal_exactly}
 use Rattle.plural_output.specs.Text.{output_text}
 use Rattle.plural_output.specs.Value.{OutputValue}
 use Rattle.plural_bundle.specs.Value.{BundleValue}
@@ -68,10 +70,14 @@ one_failure x log last n at m to f g =
     let high : to ≤ at = g.least at (subst (λ r. Fails x log last r at) rules f.fails) in
     (numbers, omega (arith, low, high))
 
+-- No rule fails on a legal log.
+none_fails : (x : Expected) (log : LogValue) (last : List ℕ) → IsLegal x log last → NoneFails x log last
+none_fails x log last h = (legal_exactly x log last (sym (length-map log.outcomes (λ o. Some o)) ∙ ap length h.outcomes) (ap length h.words)).0 h
+
 one_verdict : (x : Expected) (log : LogValue) (last : List ℕ) (v w : Verdict) → IsVerdict x log last v → IsVerdict x log last w → v ≡ w
 one_verdict x log last verdict.Yes verdict.Yes f g = refl
-one_verdict x log last verdict.Yes (verdict.No n at) f g = absurd (f g.rule at g.fails)
-one_verdict x log last (verdict.No n at) verdict.Yes f g = absurd (g f.rule at f.fails)
+one_verdict x log last verdict.Yes (verdict.No n at) f g = absurd (none_fails x log last f g.rule at g.fails)
+one_verdict x log last (verdict.No n at) verdict.Yes f g = absurd (none_fails x log last g f.rule at f.fails)
 one_verdict x log last (verdict.No n at) (verdict.No m to) f g = let e = one_failure x log last n at m to f g in λ i. verdict.No (e.0 i) (e.1 i)
 
 -- The answer that tells the verdict on a log is one.

@@ -6,6 +6,7 @@ use Rattle.plural_map.specs.Limits.{IsMap}
 use Rattle.plural_map.proofs.Lookups.{AreNamed}
 use Rattle.plural_trace.specs.Logs.{IsLog}
 use Rattle.plural_trace.specs.SerialLog.{serial_log}
+use Rattle.plural_trace.proofs.SerialLog.{serial_is_log}
 use Rattle.plural_bundle.specs.Answer.{IsBundle}
 use Rattle.plural_crew.specs.Clashes.{IsAccepted}
 use Rattle.plural_output.specs.Answer.{IsOutput}
@@ -14,7 +15,7 @@ use Rattle.plural_cli.specs.Lines.{line_after}
 use Rattle.plural_cli.specs.Run.{IsRan, IsSerialAnswer, IsRunAnswer}
 use Rattle.plural_cli.specs.declared.command.Request.TheVariants as request
 use Rattle.plural_cli.specs.Output.{IsAnswer}
-use Rattle.plural_promise.specs.Outputs.{bundle_in, IsReadAgain, LogsFit, SerialIsRead, RunIsRead}
+use Rattle.plural_promise.specs.Outputs.{bundle_in, IsReadAgain, SerialIsRead, RunIsRead}
 use Rattle.plural_promise.proofs.LogText.{lines_have_text}
 use Rattle.plural_promise.proofs.BundleMaps.{InParts, in_parts, map_fits_parts}
 use Rattle.plural_promise.proofs.OutputLines.{output_read}
@@ -65,18 +66,18 @@ pub record IsFit (bytes : List ℕ) (status : ℕ) (text : List ℕ) (r : IsRunO
   pub log : IsLog (bundle_in bytes).program.map (serial_log r.ran.run)
 
 -- All this holds of each.
-pub run_fits : LogsFit → (bytes : List ℕ) (status : ℕ) (text : List ℕ) (r : IsRunOf bytes status text) → IsFit bytes status text r
-run_fits logs bytes status text r =
+pub run_fits : (bytes : List ℕ) (status : ℕ) (text : List ℕ) (r : IsRunOf bytes status text) → IsFit bytes status text r
+run_fits bytes status text r =
     let b = bundle_in bytes in
     let parts = in_parts (content_lines bytes) (line_after bytes) (lines_have_text 1 bytes) r.bundle in
     let maps = map_fits_parts (content_lines bytes) parts in
-    record { parts = parts; map = maps.0; named = maps.1; log = logs b.program b.image r.ran.run maps.0 r.ran.program r.ran.serial }
+    record { parts = parts; map = maps.0; named = maps.1; log = serial_is_log b.program b.image r.ran.run r.ran.program maps.0 r.ran.serial }
 
 -- The text of a run is read again.
-pub read_again : LogsFit → (bytes : List ℕ) (status : ℕ) (text : List ℕ) (end : ℕ) → IsRunOf bytes status text → IsReadAgain (bundle_in bytes) text end
-read_again logs bytes status text end r =
+pub read_again : (bytes : List ℕ) (status : ℕ) (text : List ℕ) (end : ℕ) → IsRunOf bytes status text → IsReadAgain (bundle_in bytes) text end
+read_again bytes status text end r =
     let b = bundle_in bytes in
-    let f = run_fits logs bytes status text r in
+    let f = run_fits bytes status text r in
     let o = output_read b.program.map (serial_log r.ran.run) r.ran.run.image 1 end f.map f.named f.log r.ran.memory in
     record {
       run = r.ran.run;
@@ -87,8 +88,8 @@ read_again logs bytes status text end r =
 
 -- What `serial` writes is read again.
 pub serial_is_read : SerialIsRead
-serial_is_read logs bytes status text end a l = read_again logs bytes status text end (serial_ran bytes status text a l)
+serial_is_read bytes status text end a l = read_again bytes status text end (serial_ran bytes status text a l)
 
 -- And what `run` writes.
 pub run_is_read : RunIsRead
-run_is_read logs bytes status text end a l = read_again logs bytes status text end (run_ran bytes status text a l).1
+run_is_read bytes status text end a l = read_again bytes status text end (run_ran bytes status text a l).1

@@ -10,6 +10,7 @@ use Rattle.std.proofs.lemmas.List.FromFn.{length-range_with_len}
 use Rattle.plural_base.specs.Names.{is_name, begins_name, continues_name}
 use Rattle.plural_bytes.specs.Hexadecimal.{hex_digit, hex_text}
 use Rattle.plural_image.specs.Print.{row_text, row_lines, image_text}
+use Rattle.plural_core.specs.Ends.{IsEnd}
 use Rattle.plural_core.specs.declared.end.End.{End}
 use Rattle.plural_core.specs.declared.end.End.TheVariants as ended
 use Rattle.plural_map.specs.declared.outcome.Outcome.{Outcome}
@@ -20,7 +21,7 @@ use Rattle.plural_map.specs.Lookup.{name_at}
 use Rattle.plural_map.proofs.Lookups.{AreNamed, named_at}
 use Rattle.plural_serial.specs.Program.{IsMemory}
 use Rattle.plural_trace.specs.declared.entry.Entry.{Entry}
-use Rattle.plural_trace.specs.Logs.{LogValue, IsEnd, IsEntry, IsLog}
+use Rattle.plural_trace.specs.Logs.{LogValue, IsEntry, IsLog}
 use Rattle.plural_log.specs.Print.{outcome_text, task_text, task_texts, end_text, counts_text, times_text, entry_text, log_text}
 use Rattle.plural_output.specs.Text.{output_text}
 

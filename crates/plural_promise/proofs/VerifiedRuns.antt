@@ -28,7 +28,7 @@ use Rattle.plural_cli.specs.Output.{IsAnswer}
 use Rattle.plural_cli.proofs.JointLines.{part_at, bundle_splits}
 use Rattle.plural_made.proofs.LineNumbers.{lines_from}
 use Rattle.plural_made.proofs.TextLines.{EndsLine, ends_with, lines_both}
-use Rattle.plural_promise.specs.Outputs.{bundle_in, LogsFit}
+use Rattle.plural_promise.specs.Outputs.{bundle_in}
 use Rattle.plural_promise.specs.Verified.{IsTheAnswer, EndsWithLine, runs_of, RunIsLegal, SerialIsLegal}
 use Rattle.plural_promise.proofs.OneAnswer.{answer_is_one}
 use Rattle.plural_promise.proofs.OutputLines.{output_read}
@@ -92,7 +92,7 @@ entry_count : (i : ℕ) (rs : List Record) → length (serial_entries i rs) ≡ 
 entry_count i [] = refl
 entry_count i (r ∷ rs) = let e = entry_count (i + 1) rs in omega (arith, e)
 
-module _ (logs : LogsFit) (bytes : List ℕ) (status : ℕ) (text : List ℕ) (start : List ℕ) (ends : EndsLine start) (same : content_lines start ≡ content_lines bytes) (long : length start ≤ length bytes + 1) (accepted : IsAccepted (bundle_in bytes).program.map.tasks) (r : IsRunOf bytes status text) where
+module _ (bytes : List ℕ) (status : ℕ) (text : List ℕ) (start : List ℕ) (ends : EndsLine start) (same : content_lines start ≡ content_lines bytes) (long : length start ≤ length bytes + 1) (accepted : IsAccepted (bundle_in bytes).program.map.tasks) (r : IsRunOf bytes status text) where
   legal_line : List ℕ
   legal_line = legal_text (runs_of (bundle_in bytes))
 
@@ -100,7 +100,7 @@ module _ (logs : LogsFit) (bytes : List ℕ) (status : ℕ) (text : List ℕ) (s
   unfolding legal_line
   verdict_on =
       let b = bundle_in bytes in
-      let f = run_fits logs bytes status text r in
+      let f = run_fits bytes status text r in
       let many : runs_of b ≡ length (serial_log r.ran.run).entries =
       sym (entry_count 0 r.ran.run.records ∙ ap length r.ran.serial.records ∙ length-map (serial_of b.program b.image).ran (record_of b.program)) in
       let judged : IsJudged b (record { log = serial_log r.ran.run; image = r.ran.run.image }) 0 (legal_text (runs_of b)) = record {
@@ -113,7 +113,7 @@ module _ (logs : LogsFit) (bytes : List ℕ) (status : ℕ) (text : List ℕ) (s
 
   short : length (start ++ text) ≤ 67108864
   short =
-      let f = run_fits logs bytes status text r in
+      let f = run_fits bytes status text r in
       let low = output_length (bundle_in bytes).program.map (serial_log r.ran.run) r.ran.run.image f.map f.named f.log r.ran.memory in
       omega (arith, r.short, low, ap length r.ran.text_is, length-append start text, long)
 
@@ -123,7 +123,7 @@ module _ (logs : LogsFit) (bytes : List ℕ) (status : ℕ) (text : List ℕ) (s
       let n = 1 + length (pieces start) in
       let end = line_after (start ++ text) in
       let out = lines_from n text in
-      let f = run_fits logs bytes status text r in
+      let f = run_fits bytes status text r in
       let p = f.parts.parts in
       let o = output_read b.program.map (serial_log r.ran.run) r.ran.run.image n end f.map f.named f.log r.ran.memory in
       let lines : content_lines (start ++ text) ≡ lines_of p ++ out = lines_both 1 start text ends ∙ ap (λ x. x ++ out) (same ∙ f.parts.whole) in
@@ -146,25 +146,25 @@ module _ (logs : LogsFit) (bytes : List ℕ) (status : ℕ) (text : List ℕ) (s
 -- ---- bundles with a line end, and without
 
 -- A bundle that ends with a line end, and the output of its run.
-ended : LogsFit → (bytes : List ℕ) (status : ℕ) (text : List ℕ) → EndsWithLine bytes → IsAccepted (bundle_in bytes).program.map.tasks → IsRunOf bytes status text
+ended : (bytes : List ℕ) (status : ℕ) (text : List ℕ) → EndsWithLine bytes → IsAccepted (bundle_in bytes).program.map.tasks → IsRunOf bytes status text
     → IsTheAnswer request.Verify (bytes ++ text) 0 (legal_text (runs_of (bundle_in bytes)))
-ended logs bytes status text line accepted r =
-    verified logs bytes status text bytes (subst EndsLine (sym line.1) (ends_with line.0)) refl (omega arith) accepted r
+ended bytes status text line accepted r =
+    verified bytes status text bytes (subst EndsLine (sym line.1) (ends_with line.0)) refl (omega arith) accepted r
 
 -- Any bundle, a line end, and the output of its run.
-apart_by_line : LogsFit → (bytes : List ℕ) (status : ℕ) (text : List ℕ) → IsAccepted (bundle_in bytes).program.map.tasks → IsRunOf bytes status text
+apart_by_line : (bytes : List ℕ) (status : ℕ) (text : List ℕ) → IsAccepted (bundle_in bytes).program.map.tasks → IsRunOf bytes status text
     → IsTheAnswer request.Verify ((bytes ++ 10 ∷ []) ++ text) 0 (legal_text (runs_of (bundle_in bytes)))
-apart_by_line logs bytes status text accepted r =
-    verified logs bytes status text (bytes ++ 10 ∷ []) (ends_with bytes) (same_lines bytes) (omega (arith, length-append bytes (10 ∷ []))) accepted r
+apart_by_line bytes status text accepted r =
+    verified bytes status text (bytes ++ 10 ∷ []) (ends_with bytes) (same_lines bytes) (omega (arith, length-append bytes (10 ∷ []))) accepted r
 
 -- `verify` of a bundle and what `run` wrote of it.
 pub run_is_legal : RunIsLegal
-run_is_legal logs bytes status text a l =
+run_is_legal bytes status text a l =
     let h = run_ran bytes status text a l in
-    record { together = λ line. ended logs bytes status text line h.0 h.1; apart = apart_by_line logs bytes status text h.0 h.1 }
+    record { together = λ line. ended bytes status text line h.0 h.1; apart = apart_by_line bytes status text h.0 h.1 }
 
 -- And of what `serial` wrote of a map without a clash.
 pub serial_output_is_legal : SerialIsLegal
-serial_output_is_legal logs bytes status text a l accepted =
+serial_output_is_legal bytes status text a l accepted =
     let h = serial_ran bytes status text a l in
-    record { together = λ line. ended logs bytes status text line accepted h; apart = apart_by_line logs bytes status text accepted h }
+    record { together = λ line. ended bytes status text line accepted h; apart = apart_by_line bytes status text accepted h }

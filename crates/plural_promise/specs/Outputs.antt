@@ -1,10 +1,7 @@
 -- The output of a run, read again.
 use Rattle.std.specs.Prelude.{ℕ, ◌≡◌, ◌≤◌, List}
 use Rattle.plural_bytes.specs.Lines.{content_lines}
-use Rattle.plural_map.specs.Limits.{IsMap}
-use Rattle.plural_serial.specs.Program.{ProgramValue, IsProgram}
 use Rattle.plural_serial.specs.Answer.{AnswerValue, IsSerial}
-use Rattle.plural_trace.specs.Logs.{IsLog}
 use Rattle.plural_trace.specs.SerialLog.{serial_log}
 use Rattle.plural_bundle.specs.Value.{BundleValue, bundle_of}
 use Rattle.plural_output.specs.Value.{output_of}
@@ -24,17 +21,12 @@ pub record IsReadAgain (b : BundleValue) (text : List ℕ) (end : ℕ) : Type 0 
   pub value : output_of b.program.map.tasks b.program.map.words (content_lines text)
       ≡ record { log = serial_log run; image = run.image }
 
--- The log of a serial run of a program over a map can be printed.
-abbrev pub LogsFit : Type 0
-LogsFit = (p : ProgramValue) (m : List ℕ) (a : AnswerValue) → IsMap p.map → IsProgram p → IsSerial p m a
-    → IsLog p.map (serial_log a)
-
 -- What `serial` writes of a bundle, with status 0 or 1, is read again.
 abbrev pub SerialIsRead : Type 0
-SerialIsRead = LogsFit → (bytes : List ℕ) (status : ℕ) (text : List ℕ) (end : ℕ) → IsAnswer request.Serial bytes status text
+SerialIsRead = (bytes : List ℕ) (status : ℕ) (text : List ℕ) (end : ℕ) → IsAnswer request.Serial bytes status text
     → status ≤ 1 → IsReadAgain (bundle_in bytes) text end
 
 -- So is what `run` writes of a bundle, with status 0 or 1.
 abbrev pub RunIsRead : Type 0
-RunIsRead = LogsFit → (bytes : List ℕ) (status : ℕ) (text : List ℕ) (end : ℕ) → IsAnswer request.Run bytes status text
+RunIsRead = (bytes : List ℕ) (status : ℕ) (text : List ℕ) (end : ℕ) → IsAnswer request.Run bytes status text
     → status ≤ 1 → IsReadAgain (bundle_in bytes) text end

@@ -7,7 +7,7 @@ use Rattle.plural_cli.specs.declared.command.Request.{Request}
 use Rattle.plural_cli.specs.declared.command.Request.TheVariants as request
 use Rattle.plural_cli.specs.Output.{IsAnswer}
 use Rattle.plural_cli.specs.Verify.{legal_text}
-use Rattle.plural_promise.specs.Outputs.{bundle_in, LogsFit}
+use Rattle.plural_promise.specs.Outputs.{bundle_in}
 
 -- The request answers these bytes with this status and text, and with no other.
 pub record IsTheAnswer (request : Request) (bytes : List ℕ) (status : ℕ) (text : List ℕ) : Type 0 where
@@ -30,11 +30,11 @@ pub record IsLegalAfter (bytes text : List ℕ) (entries : ℕ) : Type 0 where
 
 -- `verify` answers a bundle and what `run` wrote of it, with status 0 or 1, as a legal log.
 abbrev pub RunIsLegal : Type 0
-RunIsLegal = LogsFit → (bytes : List ℕ) (status : ℕ) (text : List ℕ) → IsAnswer request.Run bytes status text → status ≤ 1
+RunIsLegal = (bytes : List ℕ) (status : ℕ) (text : List ℕ) → IsAnswer request.Run bytes status text → status ≤ 1
     → IsLegalAfter bytes text (runs_of (bundle_in bytes))
 
 -- The same of what `serial` wrote of a bundle whose map has no clash.
 abbrev pub SerialIsLegal : Type 0
-SerialIsLegal = LogsFit → (bytes : List ℕ) (status : ℕ) (text : List ℕ) → IsAnswer request.Serial bytes status text
+SerialIsLegal = (bytes : List ℕ) (status : ℕ) (text : List ℕ) → IsAnswer request.Serial bytes status text
     → status ≤ 1 → IsAccepted (bundle_in bytes).program.map.tasks
     → IsLegalAfter bytes text (runs_of (bundle_in bytes))
