@@ -1,5 +1,7 @@
 pub mod KnownBytes
+mod ByteSearches
 pub mod Cuts
+pub mod FirstWords
 pub mod DigitValues
 pub mod LineNumbers
 pub mod PlainBytes

@@ -3,6 +3,7 @@ pub mod Causes
 pub mod Streams
 pub mod InMemory
 pub mod Lines
+pub mod Words
 pub mod Numerals
 pub mod Hexadecimal
 pub mod Spelled

@@ -26,7 +26,7 @@ mod writing;
 pub use adapters::{StdSink, StdSource};
 pub use hexadecimal::hex;
 pub use in_memory::{MemSink, MemSource};
-pub use lines::{Line, content, find_blank, line_count, next_token, split, trim_start};
+pub use lines::{Line, content, ends_token, find_blank, line_count, next_token, split, trim_start};
 pub use numerals::{NumberError, digits, number};
 pub use outside::{Failed, Sink, Source};
 pub use plural_base::{Memory, Name};

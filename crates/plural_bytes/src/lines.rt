@@ -4,6 +4,7 @@ ghost use Rattle.std.specs.Prelude.{◌≡◌, ◌+◌, ◌*◌, ◌<◌, ◌≤
 ghost use Rattle.std.specs.List.{before_first, after_first};
 ghost use Rattle.plural_bytes.specs.Spelled.{text_lines};
 ghost use Rattle.plural_bytes.specs.Lines.{pieces, is_line_end, is_hash, is_blank, without_cr, drop_while, content, content_lines, tokens};
+ghost use Rattle.plural_bytes.specs.Words.{ends_token};
 
 use memchr::{memchr, memchr_iter};
 use plural_base::Memory;
@@ -28,16 +29,30 @@ fn find_line_end(text: &[u8]) -> Option<usize>
 fn find_hash(text: &[u8]) -> Option<usize>
     ensures { result ≡ position is_hash text.now }
 {
-    text.iter().position(|c| *c == b'#')
+    memchr(b'#', text)
 }
 
+#[inline(always)]
 fn is_blank(c: u8) -> bool
     ensures { result ≡ is_blank c }
 {
     c == b' ' || c == b'\t'
 }
 
+/// Does a token that stands before this text end there? So it does if the text is empty or begins with a
+/// blank.
+#[inline(always)]
+pub fn ends_token(text: &[u8]) -> bool
+    ensures { result ≡ ends_token text.now }
+{
+    match text {
+        [] => true,
+        [first, ..] => is_blank(*first),
+    }
+}
+
 /// Where the first blank of a text stands, from 0. Blanks are the space and the tab.
+#[inline(always)]
 pub fn find_blank(text: &[u8]) -> Option<usize>
     ensures { result ≡ position is_blank text.now }
 {
@@ -77,6 +92,7 @@ fn without_comment(piece: &[u8]) -> &[u8]
 }
 
 /// A text without the blanks before its first other byte.
+#[inline(always)]
 pub fn trim_start(text: &[u8]) -> &[u8]
     ensures { result.now ≡ drop_while is_blank text.now }
 {
@@ -146,6 +162,7 @@ pub fn line_count(text: &[u8]) -> u32
 
 /// The first token of a line, and what stands after the blank that ends it. Tokens are a line's
 /// longest pieces without blanks.
+#[inline(always)]
 pub fn next_token(text: &[u8]) -> Option<(&[u8], &[u8])>
     ensures tokens { MatchOption result (tokens text.now ≡ []) (λ r. tokens text.now ≡ r.0.now ∷ tokens r.1.now) }
     ensures rest { IfSome result (λ r. r.1.now ≡ after_first is_blank (drop_while is_blank text.now)) }

@@ -1,5 +1,5 @@
 use Rattle.plural_bytes.proofs.DigitValues.{value_more, digits_more}
-use Rattle.plural_bytes.proofs.numerals.digits.Goals as goal
+use Rattle.plural_bytes.proofs.numerals.long_digits.Goals as goal
 
 -- A turn of `loop-c` keeps its invariant.
 pub loop-c-preserved : goal.loop-c-preserved
