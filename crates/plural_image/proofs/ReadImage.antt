@@ -8,7 +8,8 @@ use Rattle.plural_bytes.specs.Lines.{TextLine}
 use Rattle.plural_bytes.specs.declared.lines.Line.{Line}
 use Rattle.plural_bytes.specs.Spelled.{text_line, text_lines}
 use Rattle.plural_sections.specs.Faults.{IsFirstFault}
-use Rattle.plural_sections.specs.LineKinds.{HasNone, IsLeast}
+use Rattle.plural_sections.specs.LineKinds.{HasNone, IsLeast, IsLineFault}
+use Rattle.plural_sections.proofs.FirstFaults.{length_before}
 use Rattle.plural_sections.proofs.ReadLines as reading
 use Rattle.plural_image.specs.Shape.{image_line}
 use Rattle.plural_image.specs.Image.{end_of, end_before, IsMisplaced, HasKind, Breaks, rank, overwritten, placed, image_of}
@@ -45,30 +46,36 @@ length-overwritten words a new h =
 
 -- The lines have no fault; the words are those that they spell, and the last of them lies before `floor`.
 pub record Reads (w : ℕ) (lines : List TextLine) (words : List ℕ) (floor : ℕ) : Type 0 where
-  pub known : reading.Reads image_line kinds.Form end_before (λ n f. HasKind w f) lines floor
+  pub known : reading.Reads (Breaks w) end_before lines floor
   pub image : words ≡ image_of w lines
   pub len : length words ≡ w
 
 -- Before any line the words are zeros.
 pub reads_nothing : (w : ℕ) (words : List ℕ) → words ≡ replicate w 0 → Reads w [] words 0
-reads_nothing w words e = record { known = reading.reads_nothing rank image_line kinds.Form end_before (λ n f. HasKind w f) 0 refl; image = e; len = ap length e ∙ length-replicate {A = ℕ} w 0 }
+reads_nothing w words e = record { known = reading.reads_nothing rank (Breaks w) end_before 0 refl; image = e; len = ap length e ∙ length-replicate {A = ℕ} w 0 }
+
+fault_first : (w : ℕ) (xs : List Line) (i : ℕ) (d : Line) (words : List ℕ) (floor : ℕ) (kind : ImageKind) → i < length xs → Reads w (text_lines (take i xs)) words floor
+    → IsLineFault rank kinds.Form (HasKind w floor) (image_line (get_or xs i d).text.now) kind → IsFirstFault rank (Breaks w) (text_lines xs) (get_or xs i d).number kind
+fault_first w xs i d words floor kind l r f =
+    reading.line_first rank (Breaks w) end_before xs i d floor kind l r.known
+    (reading.least_by rank image_line kinds.Form end_before (λ n f. HasKind w f) (text_lines (take i xs)) (get_or xs i d).text.now i floor kind (sym (length_before xs i (omega arith))) r.known.spelled f)
 
 -- A line without a shape is the first with a fault, after lines without one.
 pub form_first : (w : ℕ) (xs : List Line) (i : ℕ) (d : Line) (words : List ℕ) (floor : ℕ) → i < length xs → Reads w (text_lines (take i xs)) words floor
     → None ≡ image_line (get_or xs i d).text.now → IsFirstFault rank (Breaks w) (text_lines xs) (get_or xs i d).number kinds.Form
-form_first w xs i d words floor l r shape = reading.line_first rank image_line kinds.Form end_before (λ n f. HasKind w f) xs i d floor kinds.Form l r.known (rw (← shape) refl)
+form_first w xs i d words floor l r shape = fault_first w xs i d words floor kinds.Form l r (rw (← shape) refl)
 
 -- So is a misplaced line.
 pub address_first : (w : ℕ) (xs : List Line) (i : ℕ) (d : Line) (words : List ℕ) (floor a : ℕ) (new : List ℕ) → i < length xs → Reads w (text_lines (take i xs)) words floor
     → Some (a, new) ≡ image_line (get_or xs i d).text.now → IsMisplaced w floor (a, new) → IsFirstFault rank (Breaks w) (text_lines xs) (get_or xs i d).number kinds.Address
-address_first w xs i d words floor a new l r shape m =
-    reading.line_first rank image_line kinds.Form end_before (λ n f. HasKind w f) xs i d floor kinds.Address l r.known (rw (← shape) (address_least w floor (a, new) m))
+address_first w xs i d words floor a new l r shape m = fault_first w xs i d words floor kinds.Address l r (rw (← shape) (address_least w floor (a, new) m))
 
 -- A line that fits after the others is read, too.
 pub reads_push : (w : ℕ) (lines : List TextLine) (line : TextLine) (words written : List ℕ) (floor a : ℕ) (new : List ℕ) → Reads w lines words floor
     → image_line line.1 ≡ Some (a, new) → a + length new ≤ w → floor ≤ a → written ≡ overwritten words a new → Reads w (lines ++ line ∷ []) written (a + length new)
 reads_push w ls line words written floor a new r shape fits rises e = record {
-  known = reading.reads_push rank image_line kinds.Form end_before (λ n f. HasKind w f) ls line floor (a + length new) (a, new) r.known shape (no_kind w floor (a, new) apart) (sym (end_more ls line (a, new) shape));
+  known = reading.reads_push rank (Breaks w) end_before ls line floor (a + length new) r.known
+      (reading.none_by rank image_line kinds.Form end_before (λ n f. HasKind w f) ls line.1 (length ls) floor (a, new) refl r.known.spelled shape (no_kind w floor (a, new) apart)) (sym (end_more ls line (a, new) shape));
   image = e ∙ ap (λ ws. overwritten ws a new) r.image ∙ sym (placed_more w ls line (a, new) shape);
   len = ap length e ∙ length-overwritten words a new (omega (arith, fits, r.len)) ∙ r.len;
 }

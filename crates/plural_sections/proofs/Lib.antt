@@ -5,6 +5,7 @@ pub mod Cuts
 pub mod PassedErrors
 pub mod ReadLines
 pub mod Caps
+mod FirstNumerals
 mod WordTokens
 pub mod Headers
 pub mod TextRules

@@ -2,7 +2,7 @@
 -- shape has after so many lines that spell so much. A format gives the shape of a text, the value that lines spell,
 -- the table and the order of the kinds; these words give the rule of its lines, a line's fault and what a check of a
 -- line answers.
-use Rattle.std.specs.Prelude.{◌≡◌, ℕ, ◌≤◌, List, Option, MatchOption, length, fold}
+use Rattle.std.specs.Prelude.{◌≡◌, ℕ, ◌≤◌, true, List, [], ◌∷◌, Option, MatchOption, length, fold, nat_lt}
 use Rattle.std.specs.Option.{option_map_or}
 use Rattle.plural_bytes.specs.Lines.{TextLine}
 
@@ -31,6 +31,23 @@ abbrev pub BreaksBy : {S V K : Type 0} → (shape_of : List ℕ → Option S) �
     → (Table : ℕ → V → S → K → Type 0) → List TextLine → List ℕ → K → Type 0
 BreaksBy shape_of form value Table before text kind =
     KindsOf form (Table (length before) (value before)) (shape_of text) kind
+
+-- The line that closes a section has a fault of form if fewer than `least` lines stand before it.
+abbrev pub ClosesEarly : {K : Type 0} → (form : K) → (least n : ℕ) → K → Type 0
+ClosesEarly form least n kind = (kind ≡ form) × (nat_lt n least ≡ true)
+
+-- The rule of a section's lines with the line that closes it, which is seen as a line without text: this one may close
+-- the section early, and the others have the kinds of the format's rule.
+abbrev pub BreaksClosed : {K : Type 0} → (form : K) → (least : ℕ) → (Lines : List TextLine → List ℕ → K → Type 0)
+    → List TextLine → List ℕ → K → Type 0
+BreaksClosed form least Lines before [] kind = ClosesEarly form least (length before) kind
+BreaksClosed form least Lines before (c ∷ cs) kind = Lines before (c ∷ cs) kind
+
+-- The fault of a line of such a section after n lines.
+abbrev pub IsClosedFault : {K : Type 0} → (form : K) → (least n : ℕ) → (IsFault : List ℕ → K → Type 0) → List ℕ → K
+    → Type 0
+IsClosedFault form least n IsFault [] kind = ClosesEarly form least n kind
+IsClosedFault form least n IsFault (c ∷ cs) kind = IsFault (c ∷ cs) kind
 
 -- The value that lines spell, each of which adds what its shape says; one without a shape adds nothing.
 abbrev pub spelled_by : {S V : Type 0} → (shape_of : List ℕ → Option S) → (with_line : V → S → V) → (nothing : V)

@@ -5,7 +5,7 @@
 //! (`specs/Errors.antt`).
 //! `next_section` cuts lines before the first that closes a section (`specs/Sections.antt`);
 //! `after_header` and `nothing_after` tell what has to stand between sections (`specs/Borders.antt`).
-//! `capped_numeral`, `is_within` and `word_of` read the numbers of a line (`specs/Numbers.antt`).
+//! `capped_numeral`, `next_numeral`, `is_within` and `word_of` read the numbers of a line (`specs/Numbers.antt`).
 //!
 //! Stands on `plural_bytes`. Every reader of lines stands on it.
 #![tactic(auto)]
@@ -19,5 +19,5 @@ mod sections;
 pub use border::{after_header, first_number, first_text, nothing_after};
 pub use fault::Fault;
 pub use line_error::{LineError, renamed};
-pub use numbers::{capped_numeral, is_within, word_of};
+pub use numbers::{capped_numeral, is_within, next_numeral, word_of};
 pub use sections::{Section, next_section, section_of};
