@@ -12,7 +12,7 @@ use Rattle.plural_map_text.specs.Parts.{parts_of, whole, map_of, with_line, noth
 use Rattle.plural_map_text.specs.declared.fault.MapKind as map_fault
 use Rattle.plural_map_text.specs.declared.fault.MapKind.TheVariants as map_kind
 use Rattle.plural_image.specs.Shape.{image_line}
-use Rattle.plural_sections.specs.LineKinds.{KindsOf}
+use Rattle.plural_sections.specs.LineKinds.{KindsOf, ClosesEarly}
 use Rattle.plural_image.specs.Image as image
 use Rattle.plural_image.specs.Image.{end_of, end_before, IsMisplaced, overwritten, image_of}
 use Rattle.plural_image.specs.declared.fault.ImageKind.TheVariants as image_kind
@@ -78,7 +78,7 @@ map_again lines others e = ap whole (parts_again lines others e)
 
 -- The rule of map lines reads texts alone.
 pub map_reads : (labels : List (List ℕ)) (all : List TextLine) → ReadsTexts (map_rules.Breaks 1 labels all)
-map_reads labels all before other [] kind e b = subst (λ n. map_rules.ClosesEarly n kind) (length_again before other e) b
+map_reads labels all before other [] kind e b = subst (λ n. ClosesEarly map_kind.Form 2 n kind) (length_again before other e) b
 map_reads labels all before other (c ∷ cs) kind e b =
     let many = length_again before other e in
     let parts = parts_again before other e in

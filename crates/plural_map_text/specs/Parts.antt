@@ -1,7 +1,8 @@
 -- The map that map lines spell.
-use Rattle.std.specs.Prelude.{ℕ, Bool, true, false, List, [], ◌++◌, Option, Some, None, fold, option_map}
+use Rattle.std.specs.Prelude.{ℕ, Bool, true, false, List, [], ◌++◌, Option, Some, None, option_map}
 use Rattle.std.specs.Option.{option_map_or, option_to_list}
 use Rattle.plural_bytes.specs.Lines.{TextLine}
+use Rattle.plural_sections.specs.LineKinds.{spelled_by}
 use Rattle.plural_map_text.specs.declared.line.MapLine.{MapLine}
 use Rattle.plural_map_text.specs.declared.line.MapLine.TheVariants as line
 use Rattle.plural_map_text.specs.declared.line.TaskKind.{TaskKind}
@@ -63,17 +64,13 @@ with_line p (line.Region mode base stride count) =
 abbrev pub with_read : Parts → Option MapLine → Parts
 with_read p read = option_map_or (with_line p) read p
 
--- The parts after one more text line; one without a shape changes nothing.
-abbrev pub with_text : Parts → TextLine → Parts
-with_text p l = with_read p (shape_of l.1)
-
 -- The parts before any line.
 abbrev pub nothing : Parts
 nothing = record { words = 0; sets = 0; ways = 0; earlier = []; current = None }
 
 -- The parts that lines spell.
 abbrev pub parts_of : List TextLine → Parts
-parts_of lines = fold with_text nothing lines
+parts_of lines = spelled_by shape_of with_line nothing lines
 
 -- The map of parts, its tasks in the order of `Order`.
 abbrev pub whole : Parts → MapValue

@@ -1,9 +1,10 @@
 -- The faults of map lines: which kinds a line has, by the version, all lines of the section and those before the line.
-use Rattle.std.specs.Prelude.{◌≡◌, ℕ, ◌+◌, ◌%◌, Bool, true, false, not, ◌||◌, ◌&&◌, List, [], ◌∷◌, MatchOption, length, map, sum, is_none, nat_le, nat_lt, bytes_eq, ◌==◌}
+use Rattle.std.specs.Prelude.{◌≡◌, ℕ, ◌+◌, ◌%◌, Bool, true, false, not, ◌||◌, ◌&&◌, List, MatchOption, length, map, sum, is_none, nat_le, nat_lt, bytes_eq, ◌==◌}
 use Rattle.std.specs.List.{list_any}
 use Rattle.std.specs.Option.{option_map_or}
 use Rattle.plural_bytes.specs.Lines.{TextLine}
 use Rattle.plural_sections.specs.Faults.{IsFaultless, closed}
+use Rattle.plural_sections.specs.LineKinds.{BreaksBy, BreaksClosed}
 use Rattle.plural_sections.specs.Errors.{Tells}
 use Rattle.plural_sections.specs.Numbers.{is_within}
 use Rattle.plural_regions.specs.Bounds.{IsLeastOutside}
@@ -124,19 +125,12 @@ rank kinds.Name = 3
 rank kinds.Count = 4
 rank (kinds.Outside k) = 5
 
--- The line that closes a section after n lines has a fault of form if these are fewer than two.
-abbrev pub ClosesEarly : ℕ → MapKind → Type 0
-ClosesEarly n kind = (kind ≡ kinds.Form) × (nat_lt n 2 ≡ true)
-
 -- The faults of a line of a section with all these lines, by the lines before it. A line without text closes the
--- section. Of the others, one without a shape has a fault of form alone, and one with a shape has those of the table.
--- By version 1 the lines that follow play no part.
+-- section, early if fewer than two lines stand before it. Of the others, one without a shape has a fault of form alone,
+-- and one with a shape has those of the table. By version 1 the lines that follow play no part.
 abbrev pub Breaks : (version : ℕ) → (labels : List (List ℕ)) → (all before : List TextLine) → List ℕ → MapKind
     → Type 0
-Breaks version labels all before [] kind = ClosesEarly (length before) kind
-Breaks version labels all before (c ∷ cs) kind =
-    MatchOption (shape_of (c ∷ cs)) (kind ≡ kinds.Form)
-    (λ s. HasKind labels (length before) (parts_of before) s kind)
+Breaks version labels all = BreaksClosed kinds.Form 2 (BreaksBy shape_of kinds.Form parts_of (HasKind labels))
 
 -- What an error says of the lines of a section and the number of the line that closes it: the first fault, or that
 -- memory ran out.

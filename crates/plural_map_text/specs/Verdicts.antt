@@ -1,5 +1,6 @@
 -- What the reader finds of one line.
-use Rattle.std.specs.Prelude.{◌≡◌, ℕ, ◌≤◌, List, [], ◌∷◌, Option, Some, None, MatchOption, ⊤}
+use Rattle.std.specs.Prelude.{◌≡◌, ℕ, ◌≤◌, List, [], Option, Some, None, MatchOption, ⊤}
+use Rattle.plural_sections.specs.LineKinds.{HasNone, IsLineFault, IsClosedFault}
 use Rattle.plural_regions.specs.Bounds.{AllInside}
 use Rattle.plural_map_text.specs.declared.line.MapLine.{MapLine}
 use Rattle.plural_map_text.specs.declared.line.MapLine.TheVariants as line
@@ -8,13 +9,7 @@ use Rattle.plural_map_text.specs.declared.fault.MapKind.TheVariants as kinds
 use Rattle.plural_map_text.specs.Shape.{shape_of}
 use Rattle.plural_map_text.specs.RegionOf.{region_of}
 use Rattle.plural_map_text.specs.Parts.{Parts}
-use Rattle.plural_map_text.specs.Rules.{HasKind, ClosesEarly, rank}
-
--- None of the kinds, or the least of them.
-abbrev pub IsVerdict : List (List ℕ) → ℕ → Parts → MapLine → Option MapKind → Type 0
-IsVerdict labels n p s None = (k : MapKind) → HasKind labels n p s k → ⊥
-IsVerdict labels n p s (Some kind) =
-    HasKind labels n p s kind × ((k : MapKind) → HasKind labels n p s k → rank kind ≤ rank k)
+use Rattle.plural_map_text.specs.Rules.{HasKind, rank}
 
 -- A region's words lie inside the memory for each instance of the current task.
 abbrev pub IsInsideAt : Parts → MapLine → Type 0
@@ -29,14 +24,12 @@ IsInsideAt p (line.After name when) = ⊤
 -- of two lines or more; or it has a shape, no kind of fault, and a region of it lies inside the memory.
 abbrev pub IsFine : List (List ℕ) → ℕ → Parts → List ℕ → Option MapLine → Type 0
 IsFine labels n p text None = (text ≡ []) × (2 ≤ n)
-IsFine labels n p text (Some s) = (shape_of text ≡ Some s) × IsVerdict labels n p s None × IsInsideAt p s
+IsFine labels n p text (Some s) = (Some s ≡ shape_of text) × HasNone (HasKind labels n p s) × IsInsideAt p s
 
--- The fault of a line with a text, after n lines that spell the parts: form if it has no shape, else its verdict.
+-- The fault of a line with a text, after n lines that spell the parts.
 abbrev pub IsShapeFault : List (List ℕ) → ℕ → Parts → List ℕ → MapKind → Type 0
-IsShapeFault labels n p text kind =
-    MatchOption (shape_of text) (kind ≡ kinds.Form) (λ s. IsVerdict labels n p s (Some kind))
+IsShapeFault labels n p text kind = IsLineFault rank kinds.Form (HasKind labels n p) (shape_of text) kind
 
 -- The fault of a line after n lines that spell the parts. A line without text closes the section.
-abbrev pub IsLineFault : List (List ℕ) → ℕ → Parts → List ℕ → MapKind → Type 0
-IsLineFault labels n p [] kind = ClosesEarly n kind
-IsLineFault labels n p (c ∷ cs) kind = IsShapeFault labels n p (c ∷ cs) kind
+abbrev pub IsFaultAt : List (List ℕ) → ℕ → Parts → List ℕ → MapKind → Type 0
+IsFaultAt labels n p text kind = IsClosedFault kinds.Form 2 n (IsShapeFault labels n p) text kind

@@ -8,9 +8,10 @@ ghost use Rattle.plural_map_text.specs.RegionOf.{region_of};
 ghost use Rattle.plural_map_text.specs.Parts.{quota_of, is_dup, with_line, with_read, tasks_of};
 ghost use Rattle.plural_map.specs.Lookup.{number_of, has_task};
 ghost use Rattle.plural_map.specs.Value.{with_dep, with_region};
-ghost use Rattle.plural_map_text.specs.Rules.{has, has_dep, names_current, current_has_dep, is_out_of_place, is_out_of_range, is_misnamed, is_too_many, IsOutsideAt, task_count, instance_count};
+ghost use Rattle.plural_map_text.specs.Rules.{has, has_dep, names_current, current_has_dep, is_out_of_place, is_out_of_range, is_misnamed, is_too_many, IsOutsideAt, HasKind, rank, task_count, instance_count};
 ghost use Rattle.plural_sections.specs.Numbers.{is_within};
-ghost use Rattle.plural_map_text.specs.Verdicts.{IsInsideAt, IsVerdict};
+ghost use Rattle.plural_sections.specs.LineKinds.{IsVerdict};
+ghost use Rattle.plural_map_text.specs.Verdicts.{IsInsideAt};
 ghost use Rattle.plural_map_text.specs.Drafts.{draft_parts};
 
 use crate::fault::MapKind;
@@ -248,7 +249,7 @@ fn first_outside(draft: &Draft, line: &MapLine) -> Option<u32>
 pub(crate) fn verdict(labels: &[Name], n: usize, draft: &Draft, line: &MapLine) -> Option<MapKind>
     requires few { length draft.now.earlier.items ≤ 256 }
     requires quotas { instance_count (draft_parts draft.now) ≤ 65536 }
-    ensures verdict { IsVerdict labels.now n (draft_parts draft.now) line.now result }
+    ensures verdict { IsVerdict rank (HasKind labels.now n (draft_parts draft.now) line.now) result }
     ensures inside { IfNone result (IsInsideAt (draft_parts draft.now) line.now) }
 {
     if is_out_of_place(n, draft, line) {

@@ -3,13 +3,15 @@ ghost use Rattle.std.specs.Prelude.{◌≡◌, ◌<◌, ◌≤◌, ◌++◌, len
 ghost use Rattle.std.specs.List.{range_with_len};
 ghost use Rattle.std.specs.Option.{option_to_list};
 ghost use Rattle.plural_bytes.specs.Spelled.{text_lines};
+ghost use Rattle.plural_sections.specs.LineKinds.{ClosesEarly, HasNone};
 ghost use Rattle.plural_sections.specs.declared.line_error.LineError.TheVariants.{Memory};
+ghost use Rattle.plural_map_text.specs.declared.fault.MapKind.TheVariants.{Form};
 ghost use Rattle.plural_map.specs.Limits.{IsMap};
 ghost use Rattle.plural_map.specs.Order.{order_of};
 ghost use Rattle.plural_map_text.specs.Shape.{shape_of};
 ghost use Rattle.plural_map_text.specs.Parts.{map_of, whole, tasks_of};
-ghost use Rattle.plural_map_text.specs.Rules.{ClosesEarly, IsMapText, Faults, instance_count};
-ghost use Rattle.plural_map_text.specs.Verdicts.{IsVerdict, IsInsideAt, IsFine, IsShapeFault, IsLineFault};
+ghost use Rattle.plural_map_text.specs.Rules.{HasKind, IsMapText, Faults, instance_count};
+ghost use Rattle.plural_map_text.specs.Verdicts.{IsInsideAt, IsFine, IsShapeFault, IsFaultAt};
 ghost use Rattle.plural_map_text.specs.Drafts.{draft_parts};
 
 use crate::draft::{Draft, add, verdict};
@@ -23,7 +25,7 @@ use std::alloc::Global;
 /// What a line that closes the section after `n` lines is read as, or its fault.
 fn closing(n: usize) -> Result<Option<MapLine>, MapKind>
     ensures ok { IfOk result (λ o. (o ≡ None) × (2 ≤ n)) }
-    ensures fault { IfErr result (λ kind. ClosesEarly n kind) }
+    ensures fault { IfErr result (λ kind. ClosesEarly Form 2 n kind) }
 {
     if n < 2 { Err(MapKind::Form) } else { Ok(None) }
 }
@@ -33,7 +35,7 @@ fn shaped(labels: &[Name], n: usize, draft: &Draft, text: &[u8]) -> Result<MapLi
     requires few { length draft.now.earlier.items ≤ 256 }
     requires quotas { instance_count (draft_parts draft.now) ≤ 65536 }
     ensures shape { IfOk result (λ s. Some s ≡ shape_of text.now) }
-    ensures verdict { IfOk result (λ s. IsVerdict labels.now n (draft_parts draft.now) s None) }
+    ensures fine { IfOk result (λ s. HasNone (HasKind labels.now n (draft_parts draft.now) s)) }
     ensures inside { IfOk result (λ s. IsInsideAt (draft_parts draft.now) s) }
     ensures fault { IfErr result (λ kind. IsShapeFault labels.now n (draft_parts draft.now) text.now kind) }
 {
@@ -56,7 +58,7 @@ fn checked(
     requires few { length draft.now.earlier.items ≤ 256 }
     requires quotas { instance_count (draft_parts draft.now) ≤ 65536 }
     ensures fine { IfOk result (λ o. IsFine labels.now n (draft_parts draft.now) text.now o) }
-    ensures fault { IfErr result (λ kind. IsLineFault labels.now n (draft_parts draft.now) text.now kind) }
+    ensures fault { IfErr result (λ kind. IsFaultAt labels.now n (draft_parts draft.now) text.now kind) }
 {
     if text.is_empty() {
         return closing(n);

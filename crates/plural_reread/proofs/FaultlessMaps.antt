@@ -6,9 +6,10 @@ use Rattle.std.specs.Option.{option_map_or, option_to_list}
 use Rattle.std.proofs.lemmas.Bool.{false_from_ne_true, not-false, and_parts, or_parts, ltb-false, cases_lt}
 use Rattle.std.proofs.lemmas.List.{append-nil, length_push}
 use Rattle.std.proofs.lemmas.List.Elements.{All-push}
-use Rattle.std.proofs.lemmas.List.Sums.{fold_push}
 use Rattle.plural_bytes.specs.Lines.{TextLine}
 use Rattle.plural_sections.specs.Faults.{IsFaultless}
+use Rattle.plural_sections.specs.LineKinds.{HasNone, ClosesEarly}
+use Rattle.plural_sections.proofs.ReadLines.{spelled_more, spelled_same}
 use Rattle.plural_base.specs.Names.{is_name}
 use Rattle.plural_regions.specs.declared.region.Region.{Region}
 use Rattle.plural_regions.specs.declared.region.Mode.{Mode}
@@ -22,9 +23,9 @@ use Rattle.plural_map.specs.declared.outcome.Dep.{Dep}
 use Rattle.plural_map.specs.Value.{TaskValue, with_dep, with_region}
 use Rattle.plural_map_text.specs.RegionOf.{region_of}
 use Rattle.plural_map_text.specs.Shape.{shape_of}
-use Rattle.plural_map_text.specs.Parts.{Parts, with_line, with_text, nothing, parts_of, whole}
+use Rattle.plural_map_text.specs.Parts.{Parts, with_line, nothing, parts_of, whole}
 use Rattle.plural_map.specs.Lookup.{number_of}
-use Rattle.plural_map_text.specs.Rules.{Breaks, HasKind, ClosesEarly, IsOutsideAt, is_out_of_place, is_out_of_range, is_misnamed, is_too_many, has}
+use Rattle.plural_map_text.specs.Rules.{Breaks, HasKind, IsOutsideAt, is_out_of_place, is_out_of_range, is_misnamed, is_too_many, has}
 use Rattle.plural_sections.specs.Numbers.{is_within}
 use Rattle.plural_map_text.specs.Verdicts.{IsInsideAt}
 use Rattle.plural_sections.proofs.Caps.{within_bounds}
@@ -124,13 +125,13 @@ blank_fit : (labels : List (List ℕ)) (n : ℕ) (p : Parts) → IsFit labels n 
 blank_fit labels n p f low = record { kept = kept_blank n p f.kept low; earlier = f.earlier; current = f.current }
 
 -- If the line that closes a section has no fault after n lines, these are two or more.
-not_early : (n : ℕ) → ((k : MapKind) → ClosesEarly n k → ⊥) → 2 ≤ n
+not_early : (n : ℕ) → HasNone (ClosesEarly kinds.Form 2 n) → 2 ≤ n
 not_early n none = ltb-false n 2 (false_from_ne_true (nat_lt n 2) (λ h. none kinds.Form (refl, h)))
 
 line_fit : (labels : List (List ℕ)) (all before : List TextLine) (l : TextLine) → IsFit labels (length before) (parts_of before) → ((k : MapKind) → Breaks 1 labels all before l.1 k → ⊥)
     → IsFit labels (length (before ++ l ∷ [])) (parts_of (before ++ l ∷ []))
 line_fit labels all before (number, []) f none =
-    let next : parts_of (before ++ (number, []) ∷ []) ≡ parts_of before = fold_push with_text nothing before (number, []) in
+    let next : parts_of (before ++ (number, []) ∷ []) ≡ parts_of before = spelled_same shape_of with_line nothing before (number, []) refl in
     rw (length_push before (number, []), next) (blank_fit labels (length before) (parts_of before) f (not_early (length before) none))
 line_fit labels all before (number, c ∷ cs) f none = by_shape (shape_of (c ∷ cs)) refl
   where
@@ -148,7 +149,7 @@ line_fit labels all before (number, c ∷ cs) f none = by_shape (shape_of (c ∷
         let counts = false_from_ne_true (is_too_many p s) (λ h. clear kinds.Count h) in
         let inside = inside_from p s (λ k h. clear (kinds.Outside k) h) in
         let kept = kept_more labels (length before) p s f.kept place range names counts inside in
-        let next : parts_of (before ++ l ∷ []) ≡ with_line p s = fold_push with_text nothing before l ∙ ap (λ o. option_map_or (with_line p) o p) e in
+        let next : parts_of (before ++ l ∷ []) ≡ with_line p s = spelled_more shape_of with_line nothing before l s e in
         rw (length_push before l, next) (fit_more labels (length before) p s f (line_named l.1 s e) range names kept)
 
 lines_fit : (labels : List (List ℕ)) (every before rest : List TextLine) → IsFit labels (length before) (parts_of before) → IsFaultless (Breaks 1 labels every) (before ++ rest)

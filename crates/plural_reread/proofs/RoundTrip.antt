@@ -240,7 +240,7 @@ whole_is m earlier current limits e =
 -- Lines that spell the parts after all tasks of the map spell the map.
 ends_round_trip : (m : MapValue) (labels : List (List ℕ)) (end : ℕ) (lines : List TextLine) (earlier : List TaskValue) (current : Option TaskValue) → IsMap m → m.tasks ≡ earlier ++ option_to_list current → 2 ≤ length lines
     → Reads 1 labels lines lines (after_tasks m earlier current) → IsMapText 1 labels lines end × (map_of lines ≡ m)
-ends_round_trip m labels end lines earlier current limits e low r = (closed_faultless 1 labels lines lines end r.faultless low, ap whole (sym r.value) ∙ whole_is m earlier current limits e)
+ends_round_trip m labels end lines earlier current limits e low r = (closed_faultless 1 labels lines lines end (after_tasks m earlier current) r.known low, ap whole (sym r.known.spelled) ∙ whole_is m earlier current limits e)
 
 shaped : (t : List ℕ) (ts : List (List ℕ)) → list_all is_token (t ∷ ts) ≡ true → shape_of (joined (t ∷ ts)) ≡ shape (t ∷ ts)
 shaped t ts h = ap shape (tokens_joined t ts h)
