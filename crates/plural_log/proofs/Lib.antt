@@ -1,5 +1,4 @@
 pub mod NameNumbers
-pub mod Words
 pub mod TaskTexts
 pub mod Reading
 pub mod RoundTrip

@@ -1,133 +1,57 @@
 -- Reading log lines one after the other.
-use Rattle.std.proofs.Common.{◌≡◌, ℕ, ◌+◌, ◌-◌, ◌<◌, ◌≤◌, Bool, true, false, cond, leb, Some, None, Option, List, [], ◌∷◌, ◌++◌, length, take, get_or, refl, ap, sym, subst, ◌∙◌, arith}
-use Rattle.std.specs.Prelude.{bytes_eq}
+use Rattle.std.proofs.Common.{◌≡◌, ℕ, ◌+◌, ◌-◌, ◌<◌, ◌≤◌, Bool, true, false, leb, Some, None, Option, List, [], ◌∷◌, ◌++◌, length, take, get_or, refl, ap, sym, subst, ◌∙◌, arith}
+use Rattle.std.specs.Prelude.{bytes_eq, MatchOption, ⊤}
 use Rattle.std.specs.List.{All}
-use Rattle.std.specs.Option.{option_map_or}
-use Rattle.std.proofs.lemmas.Bool.{not-false, and_parts, eqb-true, leb-true, leb-false, le-leb, lt-leb}
+use Rattle.std.proofs.lemmas.Bool.{not-false, and_parts, eqb-true, leb-true, leb-false, lt-ltb, false_from_ne_true, both_ways}
 use Rattle.std.proofs.lemmas.List.Elements.{All-push}
 use Rattle.std.proofs.lemmas.List.{map_more, length-map, length_push, take_all}
-use Rattle.std.proofs.lemmas.List.Sums.{fold_push}
 use Rattle.plural_map.specs.Lookup.{number_of, has_task}
 use Rattle.plural_bytes.specs.Lines.{TextLine}
 use Rattle.plural_bytes.specs.declared.lines.Line.{Line}
 use Rattle.plural_bytes.specs.Spelled.{text_line, text_lines}
 use Rattle.plural_sections.specs.Faults.{IsFaultless, IsFirstFault, closed}
-use Rattle.plural_sections.proofs.FirstFaults.{faultless_nil, faultless_push, first_before, length_before, first_fault}
+use Rattle.plural_sections.specs.LineKinds.{HasNone, IsLeast, BreaksBy}
+use Rattle.plural_sections.proofs.FirstFaults.{length_before}
+use Rattle.plural_sections.proofs.ReadLines as reading
 use Rattle.plural_map.specs.Value.{TaskValue}
 use Rattle.plural_trace.specs.declared.entry.Entry.{Entry}
 use Rattle.plural_log.specs.declared.line.LogLine.{LogLine}
 use Rattle.plural_log.specs.declared.line.LogLine.TheVariants as line
+use Rattle.plural_log.specs.declared.judge_line.FaultlessLine.{FaultlessLine}
 use Rattle.plural_log.specs.declared.fault.LogKind.{LogKind}
 use Rattle.plural_log.specs.declared.fault.LogKind.TheVariants as kinds
 use Rattle.plural_trace.specs.Logs.{LogValue}
 use Rattle.plural_log.specs.Shape.{shape_of}
-use Rattle.plural_log.specs.Spelled.{entry_value, with_line, with_text, nothing, log_of}
-use Rattle.plural_log.specs.Faults.{HasKind, Breaks, is_out_of_place, is_out_of_range, is_misnamed, is_too_many, least_kind, IsLineFault, rank}
+use Rattle.plural_log.specs.Numbers.{task_of}
+use Rattle.plural_log.specs.Spelled.{entry_value, with_line, nothing, log_of}
+use Rattle.plural_log.specs.Faults.{HasKind, Breaks, is_out_of_place, is_out_of_range, is_misnamed, is_too_many, rank}
+use Rattle.plural_log.specs.Verdicts.{IsFine, IsShapeFault, IsFaultAt, with_read}
 
--- ---- the least kind of a line
+-- ---- the kinds of a line
 
--- The first of four tests that holds.
-abbrev first_of_four : (a b c d : Bool) → Option LogKind
-first_of_four a b c d = cond a (Some kinds.Form) (cond b (Some kinds.Number) (cond c (Some kinds.Name) (cond d (Some kinds.Count) None)))
+-- A line that passes all tests has no kind.
+pub no_kind : (tasks : List TaskValue) (n entries : ℕ) (s : LogLine) → is_out_of_place (length tasks) n s ≡ false → is_out_of_range s ≡ false → is_misnamed tasks n s ≡ false → is_too_many entries s ≡ false
+    → HasNone (HasKind tasks n entries s)
+no_kind tasks n entries s a b c d kinds.Form h = both_ways _ a h
+no_kind tasks n entries s a b c d kinds.Number h = both_ways _ b h
+no_kind tasks n entries s a b c d kinds.Name h = both_ways _ c h
+no_kind tasks n entries s a b c d kinds.Count h = both_ways _ d h
 
--- The test of a kind.
-abbrev test_of : (a b c d : Bool) → LogKind → Bool
-test_of a b c d kinds.Form = a
-test_of a b c d kinds.Number = b
-test_of a b c d kinds.Name = c
-test_of a b c d kinds.Count = d
+rank_low : (k : LogKind) → 1 ≤ rank k
+rank_low kinds.Form = omega arith
+rank_low kinds.Number = omega arith
+rank_low kinds.Name = omega arith
+rank_low kinds.Count = omega arith
 
--- The first of four tests holds.
-first_holds : (a b c d : Bool) (k : LogKind) → first_of_four a b c d ≡ Some k → test_of a b c d k ≡ true
-first_holds true b c d kinds.Form e = refl
-first_holds true b c d kinds.Number e = absurd cc
-first_holds true b c d kinds.Name e = absurd cc
-first_holds true b c d kinds.Count e = absurd cc
-first_holds false true c d kinds.Form e = absurd cc
-first_holds false true c d kinds.Number e = refl
-first_holds false true c d kinds.Name e = absurd cc
-first_holds false true c d kinds.Count e = absurd cc
-first_holds false false true d kinds.Form e = absurd cc
-first_holds false false true d kinds.Number e = absurd cc
-first_holds false false true d kinds.Name e = refl
-first_holds false false true d kinds.Count e = absurd cc
-first_holds false false false true kinds.Form e = absurd cc
-first_holds false false false true kinds.Number e = absurd cc
-first_holds false false false true kinds.Name e = absurd cc
-first_holds false false false true kinds.Count e = refl
-first_holds false false false false k e = absurd cc
+-- Numbers of what was read without a fault are in their ranges.
+pub fine_range : (tasks : List TaskValue) (n entries : ℕ) (text : List ℕ) (o : Option FaultlessLine) → IsFine tasks n entries text o → MatchOption o ⊤ (λ s. is_out_of_range s.line ≡ false)
+fine_range tasks n entries text None f = tt
+fine_range tasks n entries text (Some s) f = false_from_ne_true _ (λ e. f.1 kinds.Number e)
 
--- A test that holds has no lesser rank than the first.
-first_least : (a b c d : Bool) (k other : LogKind) → first_of_four a b c d ≡ Some k → test_of a b c d other ≡ true → rank k ≤ rank other
-first_least a b c d kinds.Form kinds.Form e h = omega arith
-first_least a b c d kinds.Form kinds.Number e h = omega arith
-first_least a b c d kinds.Form kinds.Name e h = omega arith
-first_least a b c d kinds.Form kinds.Count e h = omega arith
-first_least true b c d kinds.Number other e h = absurd cc
-first_least true b c d kinds.Name other e h = absurd cc
-first_least true b c d kinds.Count other e h = absurd cc
-first_least false b c d kinds.Number kinds.Form e h = absurd cc
-first_least false b c d kinds.Number kinds.Number e h = omega arith
-first_least false b c d kinds.Number kinds.Name e h = omega arith
-first_least false b c d kinds.Number kinds.Count e h = omega arith
-first_least false true c d kinds.Name other e h = absurd cc
-first_least false true c d kinds.Count other e h = absurd cc
-first_least false false c d kinds.Name kinds.Form e h = absurd cc
-first_least false false c d kinds.Name kinds.Number e h = absurd cc
-first_least false false c d kinds.Name kinds.Name e h = omega arith
-first_least false false c d kinds.Name kinds.Count e h = omega arith
-first_least false false true d kinds.Count other e h = absurd cc
-first_least false false false d kinds.Count kinds.Form e h = absurd cc
-first_least false false false d kinds.Count kinds.Number e h = absurd cc
-first_least false false false d kinds.Count kinds.Name e h = absurd cc
-first_least false false false d kinds.Count kinds.Count e h = omega arith
-
--- Where no test comes first, none holds.
-none_holds : (a b c d : Bool) → first_of_four a b c d ≡ None → (k : LogKind) → test_of a b c d k ≡ false
-none_holds true b c d e k = absurd cc
-none_holds false true c d e k = absurd cc
-none_holds false false true d e k = absurd cc
-none_holds false false false true e k = absurd cc
-none_holds false false false false e kinds.Form = refl
-none_holds false false false false e kinds.Number = refl
-none_holds false false false false e kinds.Name = refl
-none_holds false false false false e kinds.Count = refl
-
--- A line that passes all four tests has no kind.
-pub none_of_four : (a b c d : Bool) → a ≡ false → b ≡ false → c ≡ false → d ≡ false → first_of_four a b c d ≡ None
-none_of_four a b c d e f g h = rw (e, f, g, h) refl
-
--- A kind holds where its test does.
-abbrev kind_test : List TaskValue → (n entries : ℕ) → LogLine → LogKind → Bool
-kind_test tasks n entries s k = test_of (is_out_of_place (length tasks) n s) (is_out_of_range s) (is_misnamed tasks n s) (is_too_many entries s) k
-
-kind_from : (tasks : List TaskValue) (n entries : ℕ) (s : LogLine) (k : LogKind) → kind_test tasks n entries s k ≡ true → HasKind tasks n entries s k
-kind_from tasks n entries s kinds.Form h = h
-kind_from tasks n entries s kinds.Number h = h
-kind_from tasks n entries s kinds.Name h = h
-kind_from tasks n entries s kinds.Count h = h
-
-test_from : (tasks : List TaskValue) (n entries : ℕ) (s : LogLine) (k : LogKind) → HasKind tasks n entries s k → kind_test tasks n entries s k ≡ true
-test_from tasks n entries s kinds.Form h = h
-test_from tasks n entries s kinds.Number h = h
-test_from tasks n entries s kinds.Name h = h
-test_from tasks n entries s kinds.Count h = h
-
--- No test answers both.
-both : {b : Bool} → b ≡ false → b ≡ true → ⊥
-both e f = cc
-
--- A line without a least kind has no kind.
-no_kind : (tasks : List TaskValue) (n entries : ℕ) (s : LogLine) → least_kind tasks n entries s ≡ None → (k : LogKind) → HasKind tasks n entries s k → ⊥
-no_kind tasks n entries s e k h = both (none_holds _ _ _ _ e k) (test_from tasks n entries s k h)
-
--- It passes each of the four tests.
-pub passes : (tasks : List TaskValue) (n entries : ℕ) (s : LogLine) → least_kind tasks n entries s ≡ None → (k : LogKind) → kind_test tasks n entries s k ≡ false
-passes tasks n entries s e k = none_holds _ _ _ _ e k
-
--- Its numbers are in their ranges.
-pub in_range : (tasks : List TaskValue) (n entries : ℕ) (s : LogLine) → least_kind tasks n entries s ≡ None → is_out_of_range s ≡ false
-in_range tasks n entries s e = passes tasks n entries s e kinds.Number
+-- The task of what was read without a fault is the one that its line names.
+pub fine_task : (tasks : List TaskValue) (n entries : ℕ) (text : List ℕ) (o : Option FaultlessLine) → IsFine tasks n entries text o → MatchOption o ⊤ (λ s. s.task ≡ task_of tasks s.line)
+fine_task tasks n entries text None f = tt
+fine_task tasks n entries text (Some s) f = f.2
 
 -- ---- what the reader knows after some lines
 
@@ -137,7 +61,7 @@ pub record IsCounted (tasks n : ℕ) (log : LogValue) : Type 0 where
   pub few : length log.entries ≤ 65536
   pub known : All (λ (e : Entry). e.rec.t < tasks) log.entries
 
--- Where some task has the name, its number is that of a task.
+-- If some task has the name, its number is that of a task.
 number_below : (tasks : List TaskValue) (name : List ℕ) → has_task tasks name ≡ true → number_of name tasks < length tasks
 number_below [] name h = absurd cc
 number_below (t ∷ ts) name h = by_first (bytes_eq t.name name) (number_below ts name) refl
@@ -168,68 +92,75 @@ counted_more tasks n log (line.Run name k e cs ts) p m t c =
       few = omega (arith, length_push log.entries (entry_value tasks name k e cs ts));
       known = All-push (λ (e : Entry). e.rec.t < length tasks) log.entries (entry_value tasks name k e cs ts) c.known below;
     }
-counted_more tasks n log line.End p m t c =
-    let high : length tasks < n = leb-false _ _ p in
-    record { outcomes = let o = c.outcomes in omega arith; few = c.few; known = c.known }
+
+-- The line that closes the section gives nothing.
+counted_blank : (tasks n : ℕ) (log : LogValue) → tasks < n → IsCounted tasks n log → IsCounted tasks (n + 1) log
+counted_blank tasks n log l c = record { outcomes = let o = c.outcomes in omega arith; few = c.few; known = c.known }
 
 -- Lines without a fault, and the log that they spell.
 pub record Reads (tasks : List TaskValue) (lines : List TextLine) (log : LogValue) : Type 0 where
-  pub faultless : IsFaultless (Breaks tasks) lines
-  pub value : log ≡ log_of tasks lines
+  pub known : reading.Reads (Breaks tasks) (log_of tasks) lines log
   pub counted : IsCounted (length tasks) (length lines) log
 
 -- Before the first line nothing is read.
 pub reads_nothing : (tasks : List TaskValue) → Reads tasks [] nothing
 reads_nothing tasks = record {
-  faultless = faultless_nil (Breaks tasks);
-  value = refl;
+  known = reading.reads_nothing rank (Breaks tasks) (log_of tasks) nothing refl;
   counted = record { outcomes = omega arith; few = omega arith; known = λ k d lt. absurd (omega arith) };
 }
 
--- The faults of a line that has a shape are those of its shape.
-by_shape : (tasks : List TaskValue) (xs : List Line) (i : ℕ) (d : Line) (log : LogValue) (s : LogLine) → i < length xs → Reads tasks (text_lines (take i xs)) log
-    → Some s ≡ shape_of (get_or xs i d).text.now → (k : LogKind) → Breaks tasks (text_lines (take i xs)) (get_or xs i d).text.now k ≡ HasKind tasks i (length log.entries) s k
-by_shape tasks xs i d log s l r e k = rw (← e, length_before xs i (omega arith), ← r.value) refl
+-- The rule of the lines with a text.
+abbrev Lines : List TaskValue → List TextLine → List ℕ → LogKind → Type 0
+Lines tasks = BreaksBy shape_of kinds.Form (log_of tasks) (λ n log. HasKind tasks n (length log.entries))
 
 -- ---- a line with a fault
 
-form_first : (tasks : List TaskValue) (xs : List Line) (i : ℕ) (d : Line) (log : LogValue) → i < length xs → Reads tasks (text_lines (take i xs)) log
-    → None ≡ shape_of (get_or xs i d).text.now → IsFirstFault rank (Breaks tasks) (text_lines xs) (get_or xs i d).number kinds.Form
-form_first tasks xs i d log l r e =
-    first_fault rank (Breaks tasks) text_line xs i d kinds.Form l r.faultless (rw (← e) refl) (λ k b. let same : k ≡ kinds.Form = rw (← e) at b in rw same (omega arith))
+-- The fault of a line after lines without one is the least of its kinds.
+least_here : (tasks : List TaskValue) (before : List TextLine) (text : List ℕ) (n : ℕ) (log : LogValue) (kind : LogKind) → n ≡ length before → Reads tasks before log → IsFaultAt tasks n (length log.entries) text kind
+    → IsLeast rank (Breaks tasks before text) kind
+least_here tasks before text n log kind e r f =
+    reading.least_closed rank kinds.Form (length tasks + 1) (Lines tasks) rank_low (IsShapeFault tasks n (length log.entries)) before text n kind e
+    (λ t g. reading.least_by rank shape_of kinds.Form (log_of tasks) (λ n log. HasKind tasks n (length log.entries)) before t n log kind e r.known.spelled g) f
 
-kind_first : (tasks : List TaskValue) (xs : List Line) (i : ℕ) (d : Line) (log : LogValue) (s : LogLine) (kind : LogKind) → i < length xs → Reads tasks (text_lines (take i xs)) log
-    → Some s ≡ shape_of (get_or xs i d).text.now → least_kind tasks i (length log.entries) s ≡ Some kind → IsFirstFault rank (Breaks tasks) (text_lines xs) (get_or xs i d).number kind
-kind_first tasks xs i d log s kind l r e v =
-    first_fault rank (Breaks tasks) text_line xs i d kind l r.faultless
-    (rw (by_shape tasks xs i d log s l r e kind) (kind_from tasks i (length log.entries) s kind (first_holds _ _ _ _ kind v)))
-    (λ k b. first_least _ _ _ _ kind k v (test_from tasks i (length log.entries) s k (rw (by_shape tasks xs i d log s l r e k) at b)))
-
--- The fault of a line after lines without one is the first of the section.
+-- It is the first of the section.
 pub line_first : (tasks : List TaskValue) (xs : List Line) (end i : ℕ) (d : Line) (log : LogValue) (kind : LogKind) → i < length xs → Reads tasks (text_lines (take i xs)) log
-    → IsLineFault tasks i (length log.entries) (get_or xs i d).text.now kind → IsFirstFault rank (Breaks tasks) (closed (text_lines xs) end) (get_or xs i d).number kind
-line_first tasks xs end i d log kind l r f = first_before rank (Breaks tasks) (text_lines xs) ((end, []) ∷ []) (get_or xs i d).number kind (by_line (shape_of (get_or xs i d).text.now) refl)
-  where
-    by_line : (o : Option LogLine) → shape_of (get_or xs i d).text.now ≡ o → IsFirstFault rank (Breaks tasks) (text_lines xs) (get_or xs i d).number kind
-    by_line None e = let same : kind ≡ kinds.Form = rw e at f in rw same (form_first tasks xs i d log l r (sym e))
-    by_line (Some s) e = let v : least_kind tasks i (length log.entries) s ≡ Some kind = rw e at f in kind_first tasks xs i d log s kind l r (sym e) v
+    → IsFaultAt tasks i (length log.entries) (get_or xs i d).text.now kind → IsFirstFault rank (Breaks tasks) (closed (text_lines xs) end) (get_or xs i d).number kind
+line_first tasks xs end i d log kind l r f =
+    reading.closed_first rank (Breaks tasks) (log_of tasks) xs end i d log kind l r.known
+    (least_here tasks (text_lines (take i xs)) (get_or xs i d).text.now i log kind (sym (length_before xs i (omega arith))) r f)
 
 -- ---- a line without one
 
+some_text : (text : List ℕ) (s : LogLine) → shape_of text ≡ Some s → text ≡ [] → ⊥
+some_text text s e z = let f : None ≡ Some s = sym (ap shape_of z) ∙ e in cc
+
 -- One more line without a fault, after lines that were read.
-pub reads_push : (tasks : List TaskValue) (lines : List TextLine) (l : TextLine) (log : LogValue) (s : LogLine) → Reads tasks lines log → shape_of l.1 ≡ Some s → least_kind tasks (length lines) (length log.entries) s ≡ None
+pub reads_push : (tasks : List TaskValue) (lines : List TextLine) (l : TextLine) (log : LogValue) (s : LogLine) → Reads tasks lines log → shape_of l.1 ≡ Some s → HasNone (HasKind tasks (length lines) (length log.entries) s)
     → Reads tasks (lines ++ l ∷ []) (with_line tasks log s)
 reads_push tasks lines l log s r e v = record {
-  faultless = faultless_push (Breaks tasks) lines l r.faultless (λ k b. no_kind tasks (length lines) (length log.entries) s v k (rw (e, ← r.value) at b));
-  value = ap (λ x. with_line tasks x s) r.value ∙ sym (fold_push (with_text tasks) nothing lines l ∙ ap (λ o. option_map_or (with_line tasks (log_of tasks lines)) o (log_of tasks lines)) e);
-  counted = rw (length_push lines l) (counted_more tasks (length lines) log s (passes tasks (length lines) (length log.entries) s v kinds.Form) (passes tasks (length lines) (length log.entries) s v kinds.Name) (passes tasks (length lines) (length log.entries) s v kinds.Count) r.counted);
+  known = reading.reads_push rank (Breaks tasks) (log_of tasks) lines l log (with_line tasks log s) r.known
+      (reading.none_other rank kinds.Form (length tasks + 1) (Lines tasks) lines l.1 (some_text l.1 s e)
+      (reading.none_by rank shape_of kinds.Form (log_of tasks) (λ n log. HasKind tasks n (length log.entries)) lines l.1 (length lines) log s refl r.known.spelled e v))
+      (ap (λ x. with_line tasks x s) r.known.spelled ∙ sym (reading.spelled_more shape_of (with_line tasks) nothing lines l s e));
+  counted = rw (length_push lines l) (counted_more tasks (length lines) log s (false_from_ne_true _ (λ h. v kinds.Form h)) (false_from_ne_true _ (λ h. v kinds.Name h)) (false_from_ne_true _ (λ h. v kinds.Count h)) r.counted);
+}
+
+-- One more line without text, after all task lines.
+reads_blank : (tasks : List TaskValue) (lines : List TextLine) (l : TextLine) (log : LogValue) → Reads tasks lines log → l.1 ≡ [] → length tasks < length lines → Reads tasks (lines ++ l ∷ []) log
+reads_blank tasks lines l log r e h = record {
+  known = reading.reads_push rank (Breaks tasks) (log_of tasks) lines l log log r.known (reading.none_closing rank kinds.Form (length tasks + 1) (Lines tasks) lines l.1 e (omega arith))
+      (r.known.spelled ∙ sym (reading.spelled_same shape_of (with_line tasks) nothing lines l (ap shape_of e)));
+  counted = rw (length_push lines l) (counted_blank (length tasks) (length lines) log h r.counted);
 }
 
 -- One more line of those that are read.
-pub reads_more : (tasks : List TaskValue) (xs : List Line) (i : ℕ) (d : Line) (log next : LogValue) (s : LogLine) → i < length xs → Reads tasks (text_lines (take i xs)) log
-    → Some s ≡ shape_of (get_or xs i d).text.now → least_kind tasks i (length log.entries) s ≡ None → next ≡ with_line tasks log s → Reads tasks (text_lines (take (i + 1) xs)) next
-reads_more tasks xs i d log next s l r e v n =
-    rw (n, map_more text_line xs i d l) (reads_push tasks (text_lines (take i xs)) (text_line (get_or xs i d)) log s r (sym e) (rw (length_before xs i (omega arith)) v))
+pub reads_more : (tasks : List TaskValue) (xs : List Line) (i : ℕ) (d : Line) (log next : LogValue) (o : Option FaultlessLine) → i < length xs → Reads tasks (text_lines (take i xs)) log
+    → IsFine tasks i (length log.entries) (get_or xs i d).text.now o → next ≡ with_read tasks log o → Reads tasks (text_lines (take (i + 1) xs)) next
+reads_more tasks xs i d log next o l r f n = rw (map_more text_line xs i d l, n) (by_line o f)
+  where
+    by_line : (o : Option FaultlessLine) → IsFine tasks i (length log.entries) (get_or xs i d).text.now o → Reads tasks (text_lines (take i xs) ++ text_line (get_or xs i d) ∷ []) (with_read tasks log o)
+    by_line None f = reads_blank tasks (text_lines (take i xs)) (text_line (get_or xs i d)) log r f.0 (rw (length_before xs i (omega arith)) f.1)
+    by_line (Some s) f = reads_push tasks (text_lines (take i xs)) (text_line (get_or xs i d)) log s.line r (sym f.0) (rw (length_before xs i (omega arith)) f.1)
 
 -- After the last line all are read.
 pub reads_all : (tasks : List TaskValue) (xs : List Line) (i : ℕ) (log : LogValue) → length xs ≤ i → Reads tasks (text_lines (take i xs)) log → Reads tasks (text_lines xs) log
@@ -237,29 +168,16 @@ reads_all tasks xs i log h r = subst (λ (ys : List Line). Reads tasks (text_lin
 
 -- ---- the line that closes the section
 
--- Where not all task lines stand before it, it has a fault of form.
+-- If not all task lines stand before it, it has a fault of form.
 pub end_first : (tasks : List TaskValue) (xs : List Line) (end : ℕ) (log : LogValue) → Reads tasks (text_lines xs) log → length xs ≤ length tasks → IsFirstFault rank (Breaks tasks) (closed (text_lines xs) end) end kinds.Form
-end_first tasks xs end log r h = record {
-  before = text_lines xs;
-  text = [];
-  after = [];
-  whole = refl;
-  earlier = r.faultless;
-  breaks = le-leb (length (text_lines xs)) (length tasks) (rw (length-map xs text_line) h);
-  least = λ k b. rank_low k;
-}
-  where
-    rank_low : (k : LogKind) → 1 ≤ rank k
-    rank_low kinds.Form = omega arith
-    rank_low kinds.Number = omega arith
-    rank_low kinds.Name = omega arith
-    rank_low kinds.Count = omega arith
+end_first tasks xs end log r h =
+    reading.closing_first rank (Breaks tasks) (log_of tasks) (text_lines xs) end log kinds.Form r.known
+    ((refl, lt-ltb (length (text_lines xs)) (length tasks + 1) (omega (arith, length-map xs text_line, h))), λ k b. rank_low k)
 
--- Where all do, the section has no fault.
+-- If all do, the section has no fault.
 pub closed_reads : (tasks : List TaskValue) (lines : List TextLine) (end : ℕ) (log : LogValue) → Reads tasks lines log → length tasks < length lines → IsFaultless (Breaks tasks) (closed lines end)
 closed_reads tasks lines end log r h =
-    let past : leb (length lines) (length tasks) ≡ false = lt-leb (length lines) (length tasks) h in
-    faultless_push (Breaks tasks) lines (end, []) r.faultless (λ k b. no_kind tasks (length lines) (length (log_of tasks lines).entries) line.End (rw past refl) k b)
+    reading.closed_faultless rank (Breaks tasks) (log_of tasks) lines end log r.known (reading.none_closing rank kinds.Form (length tasks + 1) (Lines tasks) lines [] refl (omega arith))
 
 -- The same of the lines as they are read.
 pub closed_faultless : (tasks : List TaskValue) (xs : List Line) (end : ℕ) (log : LogValue) → Reads tasks (text_lines xs) log → length tasks < length xs → IsFaultless (Breaks tasks) (closed (text_lines xs) end)

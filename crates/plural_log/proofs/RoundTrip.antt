@@ -8,6 +8,7 @@ use Rattle.std.proofs.lemmas.List.Elements.{All-head, All-tail}
 use Rattle.plural_bytes.specs.Lines.{TextLine, pieces, content_from, content_lines}
 use Rattle.plural_base.specs.Names.{is_name, name_of}
 use Rattle.plural_bytes.specs.Hexadecimal.{hex_text}
+use Rattle.plural_sections.specs.LineKinds.{HasNone}
 use Rattle.plural_sections.proofs.Caps.{capped_back}
 use Rattle.plural_bytes.proofs.Tokens.{is_token, AreTokens, all_tokens, joined, tokens_joined, line_next, decimal_token, hex_token, name_back, name_token}
 use Rattle.plural_core.specs.declared.end.End.{End}
@@ -28,11 +29,11 @@ use Rattle.plural_trace.specs.Logs.{LogValue}
 use Rattle.plural_log.specs.Print.{task_text, task_texts, end_text, counts_text, times_text, entry_text, log_text}
 use Rattle.plural_log.specs.Shape.{counts_of, times_of, shape, shape_of}
 use Rattle.plural_log.specs.Spelled.{end_value, entry_value, nothing, log_of}
-use Rattle.plural_log.specs.Faults.{is_large, is_no_end, least_kind}
+use Rattle.plural_log.specs.Faults.{is_large, is_no_end, HasKind}
 use Rattle.plural_core.specs.Ends.{IsEnd}
 use Rattle.plural_trace.specs.Logs.{IsEntry, IsLog}
 use Rattle.plural_log.specs.Laws.{LogRoundTrip}
-use Rattle.plural_log.proofs.Reading.{Reads, reads_nothing, reads_push, none_of_four, closed_reads}
+use Rattle.plural_log.proofs.Reading.{Reads, reads_nothing, reads_push, no_kind, closed_reads}
 
 -- ---- one task line
 
@@ -210,9 +211,9 @@ entry_is tasks e d l = λ i. record {
 small : (n : ℕ) → n < 4294967296 → is_large n ≡ false
 small n h = le-ltb 4294967295 n (omega arith)
 
-run_fine : (tasks : List TaskValue) (n entries : ℕ) (e : Entry) → IsEntry (length tasks) e → length tasks < n → entries < 65536 → least_kind tasks n entries (run_of tasks e) ≡ None
+run_fine : (tasks : List TaskValue) (n entries : ℕ) (e : Entry) → IsEntry (length tasks) e → length tasks < n → entries < 65536 → HasNone (HasKind tasks n entries (run_of tasks e))
 run_fine tasks n entries e h l few =
-    none_of_four _ _ _ _ (lt-leb n (length tasks) l)
+    no_kind tasks n entries (run_of tasks e) (lt-leb n (length tasks) l)
     (rw (small e.rec.k h.k, end_fine e.rec.«end» h.ended, small e.rec.instructions h.instructions, small e.rec.loads h.loads, small e.rec.misses h.misses, small e.rec.stores h.stores, small e.core h.core, small e.start h.start, small e.end_at h.end_at) refl)
     (rw (has_at tasks e.rec.t h.t) refl) (lt-leb 65536 entries few)
 
@@ -249,12 +250,12 @@ name_after : (pre : List TaskValue) (t : TaskValue) (ts : List TaskValue) → na
 name_after [] t ts = refl
 name_after (x ∷ xs) t ts = name_after xs t ts
 
-task_fine : (pre : List TaskValue) (t : TaskValue) (ts : List TaskValue) (o : Outcome) (n entries : ℕ) → n ≡ length pre + 1 → least_kind (pre ++ t ∷ ts) n entries (line.Task t.name o) ≡ None
+task_fine : (pre : List TaskValue) (t : TaskValue) (ts : List TaskValue) (o : Outcome) (n entries : ℕ) → n ≡ length pre + 1 → HasNone (HasKind (pre ++ t ∷ ts) n entries (line.Task t.name o))
 task_fine pre t ts o n entries e =
     let high : n ≤ length (pre ++ t ∷ ts) = omega (arith, e, length-append pre (t ∷ ts)) in
     let place : n - 1 ≡ length pre = omega arith in
     let same : bytes_eq (name_at (pre ++ t ∷ ts) (n - 1)) t.name ≡ true = ap (λ k. bytes_eq (name_at (pre ++ t ∷ ts) k) t.name) place ∙ ap (λ x. bytes_eq x t.name) (name_after pre t ts) ∙ same_name t.name in
-    none_of_four _ _ _ _ (rw (le-leb 1 n (omega arith), le-leb n (length (pre ++ t ∷ ts)) high) refl) refl (rw same refl) refl
+    no_kind (pre ++ t ∷ ts) n entries (line.Task t.name o) (rw (le-leb 1 n (omega arith), le-leb n (length (pre ++ t ∷ ts)) high) refl) refl (rw same refl) refl
 
 -- What follows the task lines, for whatever lines stand before.
 abbrev Follows : List TaskValue → LogValue → List ℕ → LogValue → ℕ → Type 0
@@ -293,8 +294,8 @@ first_shape : (cores : ℕ) → cores ≤ 64 → shape_of (joined (codes "log" �
 first_shape cores h =
     ap shape (tokens_joined (codes "log") (codes "1" ∷ codes "cores" ∷ decimal cores ∷ []) (first_all cores h)) ∙ rw (capped_back cores (omega arith)) refl
 
-first_fine : (tasks : List TaskValue) (cores : ℕ) → 1 ≤ cores → cores ≤ 64 → least_kind tasks 0 0 (line.First cores) ≡ None
-first_fine tasks cores a b = none_of_four _ _ _ _ refl (rw (le-leb 1 cores a, le-leb cores 64 b) refl) refl refl
+first_fine : (tasks : List TaskValue) (cores : ℕ) → 1 ≤ cores → cores ≤ 64 → HasNone (HasKind tasks 0 0 (line.First cores))
+first_fine tasks cores a b = no_kind tasks 0 0 (line.First cores) refl (rw (le-leb 1 cores a, le-leb cores 64 b) refl) refl refl
 
 whole_read : (m : MapValue) (log : LogValue) → IsMap m → AreNamed m.tasks → IsLog m log → Reads m.tasks (content_lines (log_text m log)) log
 whole_read m log limits named h =
@@ -318,7 +319,7 @@ some_lines tasks (x ∷ xs) log e h = omega arith
 -- Lines that spell one outcome for each task are more than the tasks.
 many_lines : (tasks : List TaskValue) (lines : List TextLine) (log : LogValue) → Reads tasks lines log → 1 ≤ log.cores → length log.outcomes ≡ length tasks → length tasks < length lines
 many_lines tasks lines log r h e =
-    let some = some_lines tasks lines log r.value h in
+    let some = some_lines tasks lines log r.known.spelled h in
     let o = r.counted.outcomes in
     omega arith
 
@@ -326,4 +327,4 @@ many_lines tasks lines log r h e =
 pub log_round_trip : LogRoundTrip
 log_round_trip m log end limits named h =
     let r = whole_read m log limits named h in
-    (closed_reads m.tasks (content_lines (log_text m log)) end log r (many_lines m.tasks (content_lines (log_text m log)) log r h.cores_low h.one_each), sym r.value)
+    (closed_reads m.tasks (content_lines (log_text m log)) end log r (many_lines m.tasks (content_lines (log_text m log)) log r h.cores_low h.one_each), sym r.known.spelled)

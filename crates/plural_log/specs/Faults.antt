@@ -1,6 +1,7 @@
 -- The faults of log lines: which kinds a line has, by how many lines stand before it.
-use Rattle.std.specs.Prelude.{◌≡◌, ℕ, ◌-◌, Bool, true, false, not, ◌||◌, ◌&&◌, List, Option, MatchOption, Some, None, length, nat_le, nat_lt, bytes_eq, ◌==◌, if◌then◌else◌, ⊤}
+use Rattle.std.specs.Prelude.{◌≡◌, ℕ, ◌+◌, ◌-◌, Bool, true, false, not, ◌||◌, ◌&&◌, List, length, nat_le, nat_lt, bytes_eq, ◌==◌}
 use Rattle.plural_bytes.specs.Lines.{TextLine}
+use Rattle.plural_sections.specs.LineKinds.{BreaksBy, BreaksClosed}
 use Rattle.plural_sections.specs.Errors.{Tells}
 use Rattle.plural_map.specs.Value.{TaskValue}
 use Rattle.plural_map.specs.Lookup.{name_at, has_task}
@@ -17,12 +18,11 @@ use Rattle.plural_log.specs.Shape.{shape_of}
 use Rattle.plural_log.specs.Spelled.{log_of}
 
 -- 1: after n lines the line stands in another's place: `log` is the first, as many task lines follow as there are
--- tasks, and then entries up to the end.
+-- tasks, and then entries.
 abbrev pub is_out_of_place : (tasks n : ℕ) → LogLine → Bool
 is_out_of_place tasks n (line.First cores) = not (n == 0)
 is_out_of_place tasks n (line.Task name outcome) = not (nat_le 1 n && nat_le n tasks)
 is_out_of_place tasks n (line.Run name k e c t) = nat_le n tasks
-is_out_of_place tasks n line.End = nat_le n tasks
 
 -- A trap's cause isn't 1 to 9.
 abbrev pub is_no_end : EndShape → Bool
@@ -48,21 +48,18 @@ abbrev pub is_out_of_range : LogLine → Bool
 is_out_of_range (line.First cores) = not (nat_le 1 cores && nat_le cores 64)
 is_out_of_range (line.Task name outcome) = false
 is_out_of_range (line.Run name k e c t) = is_large k || is_no_end e || has_large_count c || has_large_time t
-is_out_of_range line.End = false
 
 -- 3: a task line's name isn't that of the task in its place, or an entry's name is no task's.
 abbrev pub is_misnamed : List TaskValue → (n : ℕ) → LogLine → Bool
 is_misnamed tasks n (line.First cores) = false
 is_misnamed tasks n (line.Task name outcome) = not (bytes_eq (name_at tasks (n - 1)) name)
 is_misnamed tasks n (line.Run name k e c t) = not (has_task tasks name)
-is_misnamed tasks n line.End = false
 
 -- 4: a 65,537th entry: the lines before it spell 65,536 entries.
 abbrev pub is_too_many : (entries : ℕ) → LogLine → Bool
 is_too_many entries (line.First cores) = false
 is_too_many entries (line.Task name outcome) = false
 is_too_many entries (line.Run name k e c t) = nat_le 65536 entries
-is_too_many entries line.End = false
 
 -- The table of kinds, for a line of a shape after n lines that spell so many entries.
 abbrev pub HasKind : List TaskValue → (n entries : ℕ) → LogLine → LogKind → Type 0
@@ -78,27 +75,13 @@ rank kinds.Number = 2
 rank kinds.Name = 3
 rank kinds.Count = 4
 
--- A line without a shape has a fault of form alone; one with a shape has those of the table.
+-- The faults of a line. A line without text closes the section, early if not all task lines stand before it. Of the
+-- others, one without a shape has a fault of form alone, and one with a shape has those of the table.
 abbrev pub Breaks : List TaskValue → List TextLine → List ℕ → LogKind → Type 0
-Breaks tasks before text kind =
-    MatchOption (shape_of text) (kind ≡ kinds.Form)
-    (λ s. HasKind tasks (length before) (length (log_of tasks before).entries) s kind)
+Breaks tasks =
+    BreaksClosed kinds.Form (length tasks + 1)
+    (BreaksBy shape_of kinds.Form (log_of tasks) (λ n log. HasKind tasks n (length log.entries)))
 
 -- What an error says of a section: the first fault, or that memory ran out.
 abbrev pub Faults : List TaskValue → List TextLine → LineError LogKind → Type 0
 Faults tasks lines error = Tells rank (Breaks tasks) lines error
-
--- The least kind of a line of a shape after n lines that spell so many entries, if it has one.
-abbrev pub least_kind : List TaskValue → (n entries : ℕ) → LogLine → Option LogKind
-least_kind tasks n entries s =
-    if is_out_of_place (length tasks) n s then Some kinds.Form
-    else if is_out_of_range s then Some kinds.Number
-    else if is_misnamed tasks n s then Some kinds.Name
-    else if is_too_many entries s then Some kinds.Count
-    else None
-
--- The fault of a line after n lines that spell so many entries: of form if it has no shape, else the least of its
--- kinds.
-abbrev pub IsLineFault : List TaskValue → (n entries : ℕ) → List ℕ → LogKind → Type 0
-IsLineFault tasks n entries text kind =
-    MatchOption (shape_of text) (kind ≡ kinds.Form) (λ s. least_kind tasks n entries s ≡ Some kind)

@@ -9,9 +9,8 @@ use Rattle.plural_log.specs.declared.line.LogLine.TheVariants as line
 abbrev pub number_for : List TaskValue → List ℕ → Option ℕ
 number_for tasks name = position (λ t. bytes_eq t.name name) tasks
 
--- The number of the task that an entry's line names; the number of tasks where none has the name, and for other lines.
+-- The number of the task that an entry's line names; the number of tasks if none has the name, and for other lines.
 abbrev pub task_of : List TaskValue → LogLine → ℕ
 task_of tasks (line.First cores) = length tasks
 task_of tasks (line.Task name outcome) = length tasks
 task_of tasks (line.Run name k e c t) = number_of name tasks
-task_of tasks line.End = length tasks

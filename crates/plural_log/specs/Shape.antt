@@ -2,7 +2,7 @@
 use Rattle.std.specs.Prelude.{ℕ, ◌&&◌, List, [], ◌∷◌, Option, Some, None, option_map, option_and_then, codes, bytes_eq, if◌then◌else◌}
 use Rattle.plural_bytes.specs.Lines.{tokens}
 use Rattle.plural_base.specs.Names.{name_of}
-use Rattle.plural_sections.specs.Numbers.{capped_numeral, word_token}
+use Rattle.plural_sections.specs.Numbers.{capped_numeral, first_numeral, word_token}
 use Rattle.plural_map.specs.declared.outcome.Outcome.{Outcome}
 use Rattle.plural_map.specs.declared.outcome.Outcome.TheVariants as outcome
 use Rattle.plural_log.specs.declared.line.EndShape.{EndShape}
@@ -41,10 +41,10 @@ task_line [] = None
 
 -- A word and a number before tokens: the number, and the tokens after it.
 abbrev pub field : List ℕ → List (List ℕ) → Option (ℕ × List (List ℕ))
-field word (w ∷ n ∷ ts) = if bytes_eq w word then option_map (λ m. (m, ts)) (capped_numeral n) else None
-field word ts = None
+field word (w ∷ ts) = if bytes_eq w word then first_numeral ts else None
+field word [] = None
 
--- The times where no token is left.
+-- The times, if no token is left.
 abbrev pub at_end : List (List ℕ) → Times → Option Times
 at_end [] times = Some times
 at_end (t ∷ ts) times = None
@@ -98,22 +98,22 @@ end_of [] = None
 
 -- run NAME K END n I loads L misses M stores S core C from A to B
 abbrev pub run_line : List (List ℕ) → Option LogLine
-run_line (n ∷ k ∷ ts) =
+run_line (n ∷ ts) =
     option_and_then (λ name.
     option_and_then (λ k.
     option_and_then (λ e.
     option_and_then (λ c.
-    option_map (λ t. line.Run name k e.0 c.0 t)
+    option_map (λ t. line.Run name k.0 e.0 c.0 t)
     (times_of c.1))
     (counts_of e.1))
-    (end_of ts))
-    (capped_numeral k))
+    (end_of k.1))
+    (first_numeral ts))
     (name_of n)
-run_line ts = None
+run_line [] = None
 
--- The shape of a line by its first token; without one it is the end of the section.
+-- The shape of a line by its first token.
 abbrev pub shape : List (List ℕ) → Option LogLine
-shape [] = Some line.End
+shape [] = None
 shape (w ∷ ts) =
     if bytes_eq w (codes "log") then first_line ts
     else if bytes_eq w (codes "task") then task_line ts

@@ -1,7 +1,7 @@
 -- The log that log lines spell.
-use Rattle.std.specs.Prelude.{ℕ, List, [], ◌∷◌, ◌++◌, fold}
-use Rattle.std.specs.Option.{option_map_or}
+use Rattle.std.specs.Prelude.{ℕ, List, [], ◌∷◌, ◌++◌}
 use Rattle.plural_bytes.specs.Lines.{TextLine}
+use Rattle.plural_sections.specs.LineKinds.{spelled_by}
 use Rattle.plural_core.specs.declared.end.End.{End}
 use Rattle.plural_core.specs.declared.end.End.TheVariants as ended
 use Rattle.plural_map.specs.declared.outcome.Outcome.{Outcome}
@@ -47,11 +47,6 @@ with_line tasks log (line.First cores) = record log { cores = cores }
 with_line tasks log (line.Task name outcome) = record log { outcomes = log.outcomes ++ outcome ∷ [] }
 with_line tasks log (line.Run name k e c t) =
     record log { entries = log.entries ++ entry_value tasks name k e c t ∷ [] }
-with_line tasks log line.End = log
-
--- The log after one more text line; one without a shape changes nothing.
-abbrev pub with_text : List TaskValue → LogValue → TextLine → LogValue
-with_text tasks log l = option_map_or (with_line tasks log) (shape_of l.1) log
 
 -- The log of these parts.
 abbrev pub log_by : (cores : ℕ) → List Outcome → List Entry → LogValue
@@ -63,4 +58,4 @@ nothing = record { cores = 0; outcomes = []; entries = [] }
 
 -- The log that lines spell.
 abbrev pub log_of : List TaskValue → List TextLine → LogValue
-log_of tasks lines = fold (with_text tasks) nothing lines
+log_of tasks lines = spelled_by shape_of (with_line tasks) nothing lines

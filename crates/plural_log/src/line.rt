@@ -51,6 +51,4 @@ pub enum LogLine {
         counts: Counts,
         times: Times,
     },
-    /// The end of the section: a line without tokens, which no content line is.
-    End,
 }

@@ -1,5 +1,5 @@
 //! Reading log lines.
-ghost use Rattle.std.specs.Prelude.{◌≡◌, ◌≤◌, ◌<◌, ◌^◌, ℕ, List, length, false, OnOk, IfOk, IfErr, MatchResult};
+ghost use Rattle.std.specs.Prelude.{◌≡◌, ◌≤◌, ◌<◌, ◌^◌, ℕ, List, length, false, OnOk, IfOk, IfErr, MatchOption, MatchResult, ⊤};
 ghost use Rattle.std.specs.List.{All};
 ghost use Rattle.plural_sections.specs.Faults.{IsFaultless, closed};
 ghost use Rattle.plural_bytes.specs.Spelled.{text_lines};
@@ -10,9 +10,10 @@ ghost use Rattle.plural_sections.specs.declared.line_error.LineError.TheVariants
 ghost use Rattle.plural_log.specs.Numbers.{task_of};
 ghost use Rattle.plural_log.specs.Spelled.{end_value, entry_value, with_line, log_by, log_of};
 ghost use Rattle.plural_log.specs.Faults.{is_no_end, is_out_of_range, Breaks, Faults};
+ghost use Rattle.plural_log.specs.Verdicts.{with_read};
 
 use crate::fault::{LogError, LogKind};
-use crate::judge_line::checked;
+use crate::judge_line::{FaultlessLine, checked};
 use crate::line::{Counts, EndShape, LogLine, Times};
 use crate::numbers::numbers;
 use plural_bytes::Line;
@@ -65,7 +66,7 @@ fn entry_value(task: u32, k: u64, end: EndShape, counts: Counts, times: Times) -
 }
 
 /// Adds a line that has no fault, by the number of the task that it names.
-fn add(
+fn add_line(
     cores: &mut u32,
     outcomes: &mut Vec<Outcome>,
     entries: &mut Vec<Entry>,
@@ -88,9 +89,27 @@ fn add(
             times,
             ..
         } => entries.push(entry_value(task, k, end, counts, times))?,
-        LogLine::End => {}
     }
     Ok(())
+}
+
+/// Adds what a line without a fault was read as; the line that closes the section adds nothing.
+fn add(
+    cores: &mut u32,
+    outcomes: &mut Vec<Outcome>,
+    entries: &mut Vec<Entry>,
+    read: &Option<FaultlessLine>,
+) -> Result<(), LogError>
+    requires range { MatchOption read.now ⊤ (λ s. is_out_of_range s.line ≡ false) }
+    ensures ok { OnOk result ((tasks : List TaskValue) → MatchOption read.now ⊤ (λ s. s.task ≡ task_of tasks s.line)
+        → log_by cores.new outcomes.new.items entries.new.items
+        ≡ with_read tasks (log_by cores.old outcomes.old.items entries.old.items) read.now) }
+    ensures err { IfErr result (λ e. e ≡ Memory) }
+{
+    match read {
+        None => Ok(()),
+        Some(found) => add_line(cores, outcomes, entries, found.task, &found.line),
+    }
 }
 
 /// The log that log lines of a run of the map spell, or their first fault.
@@ -112,13 +131,7 @@ pub fn read_log(alloc: Global, map: &Map, lines: &[Line<'_>], end: u32) -> Resul
     let mut entries = Vec::new(alloc);
     for (n, line) in lines.iter().enumerate() {
         match checked(tasks, &numbers, n, entries.len(), line.text) {
-            Ok(found) => add(
-                &mut cores,
-                &mut outcomes,
-                &mut entries,
-                found.task,
-                &found.line,
-            )?,
+            Ok(read) => add(&mut cores, &mut outcomes, &mut entries, &read)?,
             Err(kind) => {
                 let line = line.number;
                 return Err(LogError::At { line, kind });

@@ -1,13 +1,13 @@
 //! A log line by its tokens.
 ghost use Rattle.std.specs.Prelude.{◌≡◌, ℕ, true, List, Some, None, MatchOption, codes, [], ◌∷◌};
 ghost use Rattle.plural_bytes.specs.Lines.{tokens};
-ghost use Rattle.plural_log.specs.Words.{is_one_word};
+ghost use Rattle.plural_bytes.specs.Words.{is_one_word};
 ghost use Rattle.plural_log.specs.Shape.{first_line, outcome_of, task_line, field, counts_of, times_of, trap_of, code_of, end_of, run_line, shape_of};
 
 use crate::line::{Counts, EndShape, LogLine, Times};
-use plural_bytes::{Name, is_word, next_token, trim_start};
+use plural_bytes::{Name, ends_token, is_word, next_token, trim_start};
 use plural_map::Outcome;
-use plural_sections::{capped_numeral, word_of};
+use plural_sections::{capped_numeral, next_numeral, word_of};
 
 fn first_line(text: &[u8]) -> Option<LogLine>
     ensures { result ≡ first_line (tokens text.now) }
@@ -76,29 +76,25 @@ fn task_line(text: &[u8]) -> Option<LogLine>
 }
 
 /// What stands after a word that is a text's first token.
+#[inline(always)]
 fn after_word<'a>(text: &'a [u8], word: &[u8]) -> Option<&'a [u8]>
     requires { is_one_word word.now ≡ true }
     ensures { MatchOption result ((ts : List (List ℕ)) → tokens text.now ≡ word.now ∷ ts → ⊥)
         (λ r. tokens text.now ≡ word.now ∷ tokens r.now) }
 {
-    let after = trim_start(text).strip_prefix(word)?;
-    let rest = trim_start(after);
-    if after.is_empty() || rest.len() < after.len() {
-        Some(rest)
-    } else {
-        None
-    }
+    let rest = trim_start(text).strip_prefix(word)?;
+    if ends_token(rest) { Some(rest) } else { None }
 }
 
 /// The number after a word, and what stands after that.
+#[inline(always)]
 fn field<'a>(text: &'a [u8], word: &[u8]) -> Option<(u64, &'a [u8])>
     requires { is_one_word word.now ≡ true }
     ensures { MatchOption result (field word.now (tokens text.now) ≡ None)
         (λ r. field word.now (tokens text.now) ≡ Some (r.0, tokens r.1.now)) }
 {
-    let (count, rest) = next_token(after_word(text, word)?)?;
-    let count = capped_numeral(count)?;
-    Some((count, rest))
+    let rest = after_word(text, word)?;
+    next_numeral(rest)
 }
 
 fn counts_of(text: &[u8]) -> Option<(Counts, &[u8])>
@@ -181,9 +177,8 @@ fn run_line(text: &[u8]) -> Option<LogLine>
     ensures { result ≡ run_line (tokens text.now) }
 {
     let (name, rest) = next_token(text)?;
-    let (k, rest) = next_token(rest)?;
     let name = Name::of(name)?;
-    let k = capped_numeral(k)?;
+    let (k, rest) = next_numeral(rest)?;
     let (end, rest) = end_of(rest)?;
     let (counts, rest) = counts_of(rest)?;
     let times = times_of(rest)?;
@@ -200,10 +195,7 @@ fn run_line(text: &[u8]) -> Option<LogLine>
 pub(crate) fn shape_of(text: &[u8]) -> Option<LogLine>
     ensures { result ≡ shape_of text.now }
 {
-    let (word, rest) = match next_token(text) {
-        None => return Some(LogLine::End),
-        Some(found) => found,
-    };
+    let (word, rest) = next_token(text)?;
     if is_word(word, b"log") {
         first_line(rest)
     } else if is_word(word, b"task") {

@@ -1,5 +1,5 @@
 -- The rule of an output's lines as that of a text of sections.
-use Rattle.std.proofs.Common.{◌≡◌, ℕ, suc, ◌+◌, true, false, List, [], refl, ap, arith}
+use Rattle.std.proofs.Common.{◌≡◌, ℕ, suc, ◌+◌, List, [], refl, ap, arith}
 use Rattle.std.specs.Prelude.{codes}
 use Rattle.plural_bytes.specs.Lines.{TextLine}
 use Rattle.plural_sections.specs.declared.fault.Fault.{Fault}
@@ -33,10 +33,7 @@ image_rank image_kind.Address = refl
 
 -- The line that closes the log's section has no fault but of form as a log line.
 pub only_form : (tasks : List TaskValue) (before : List TextLine) (k : LogKind) → log.Breaks tasks before [] k → log_fault k ≡ fault.Form
-only_form tasks before log_kind.Form b = refl
-only_form tasks before log_kind.Number b = absurd (let e : false ≡ true = b in cc)
-only_form tasks before log_kind.Name b = absurd (let e : false ≡ true = b in cc)
-only_form tasks before log_kind.Count b = absurd (let e : false ≡ true = b in cc)
+only_form tasks before k b = ap log_fault b.0
 
 -- The rule of an output's lines.
 abbrev pub output_rule : List TaskValue → (words : ℕ) → TextRule

@@ -1,8 +1,0 @@
--- The words of log lines.
-use Rattle.std.specs.Prelude.{ℕ, Bool, not, ◌&&◌, List}
-use Rattle.std.specs.List.{list_all}
-use Rattle.plural_bytes.specs.Lines.{is_blank, has_text}
-
--- A word has a byte, and no blank.
-abbrev pub is_one_word : List ℕ → Bool
-is_one_word w = has_text w && list_all (λ c. not (is_blank c)) w
