@@ -1,37 +1,28 @@
 -- The first interval that overlaps an earlier one of its core, found by rising tickets.
-use Rattle.std.proofs.Common.{◌≡◌, ℕ, zero, suc, ◌+◌, ◌*◌, ◌<◌, ◌≤◌, min, max, Bool, true, false, not, ◌||◌, ◌&&◌, eqb, ltb, List, [], ◌∷◌, length, take, set, replicate, get_or, None, refl, sym, ap, subst, ◌∙◌, arith, eqb-true, inl, inr}
-use Rattle.std.proofs.lemmas.Bool.{cases_lt, cases_eq, cases_order, eq-eqb, lt-ltb, le-ltb}
+use Rattle.std.proofs.Common.{◌≡◌, ℕ, ◌+◌, ◌*◌, ◌<◌, ◌≤◌, min, max, Bool, true, false, not, ◌&&◌, eqb, ltb, List, length, take, set, replicate, get_or, None, refl, sym, ap, subst, ◌∙◌, arith, eqb-true, inl, inr}
+use Rattle.std.proofs.lemmas.Bool.{and_from, or_left, cases_lt, cases_eq, cases_order, eq-eqb, lt-ltb, le-ltb}
 use Rattle.std.proofs.lemmas.List.{get_or-set_same, get_or-set_other, set-get_or, length-set, length-replicate, get_or-replicate}
 use Rattle.plural_trace.specs.declared.entry.Entry.{Entry}
 use Rattle.plural_trace.specs.Least.{least}
-use Rattle.plural_trace.specs.Rules.{no_entry, entry_at, is_drawn, breaks_tickets, overlaps, is_busy}
+use Rattle.plural_trace.specs.Rules.{no_entry, entry_at, is_ticket, is_drawn, breaks_tickets, overlaps, is_busy}
 use Rattle.plural_trace.specs.Busy.{is_busy_at}
 use Rattle.plural_trace.specs.Legality.{Apart}
 use Rattle.plural_trace.proofs.LeastPlaces.{least_none, none_at_all}
-use Rattle.plural_trace.proofs.TicketLemmas.{fits_when, rise_when}
+use Rattle.plural_trace.proofs.EntryPlaces.{any_first, none_first}
+use Rattle.plural_trace.proofs.TicketLemmas.{four_false, fits_when, rise_when}
 
 -- ---- starts differ
 
 drawn_at : (es : List Entry) (k l : ℕ) → k < l → l ≤ length es → is_drawn (entry_at es k).start (take l es) ≡ true
-drawn_at es k zero lt le = absurd (omega arith)
-drawn_at [] k (suc l) lt le = absurd (omega arith)
-drawn_at (e ∷ es) zero (suc l) lt le = rw (eq-eqb e.start e.start refl) refl
-drawn_at (e ∷ es) (suc k) (suc l) lt le = by (eqb e.start (entry_at es k).start) (eqb e.end_at (entry_at es k).start) (drawn_at es k l (omega arith) (omega arith))
-  where
-    by : (a b : Bool) {c : Bool} → c ≡ true → (a || b || c) ≡ true
-    by true b h = refl
-    by false true h = refl
-    by false false h = h
+drawn_at es k l lt le =
+    let x = (entry_at es k).start in
+    any_first (is_ticket x) es k l lt le (or_left (eqb x x) (eqb (entry_at es k).end_at x) (eq-eqb x x refl))
 
 -- The start of an entry with fine tickets is no ticket of an earlier one.
 undrawn : (es : List Entry) (i : ℕ) → breaks_tickets es i ≡ false → is_drawn (entry_at es i).start (take i es) ≡ false
-undrawn es i e = third (not (ltb (entry_at es i).start (entry_at es i).end_at)) (not (ltb (entry_at es i).end_at (2 * length es))) (is_drawn (entry_at es i).start (take i es)) (is_drawn (entry_at es i).end_at (take i es)) e
-  where
-    third : (a b c d : Bool) → (a || b || c || d) ≡ false → c ≡ false
-    third true b c d e = absurd (cc e)
-    third false true c d e = absurd (cc e)
-    third false false true d e = absurd (cc e)
-    third false false false d e = refl
+undrawn es i e =
+    let x = entry_at es i in
+    (four_false (not (ltb x.start x.end_at)) (not (ltb x.end_at (2 * length es))) (is_drawn x.start (take i es)) (is_drawn x.end_at (take i es)) e).2
 
 -- Entries of fine tickets that start alike are the same.
 pub starts_differ : (es : List Entry) (k l : ℕ) → least (breaks_tickets es) (length es) ≡ None → k < length es → l < length es → (entry_at es k).start ≡ (entry_at es l).start → k ≡ l
@@ -95,24 +86,16 @@ meet_busy e f a b = rw (le-ltb e.end_at f.start a, le-ltb f.end_at e.start b) re
 
 -- An interval that overlaps an earlier one of its core is busy.
 pub busy_at : (f : Entry) (es : List Entry) (k i : ℕ) → k < i → i ≤ length es → (entry_at es k).core ≡ f.core → overlaps (entry_at es k) f ≡ true → is_busy f (take i es) ≡ true
-busy_at f es k zero lt le c o = absurd (omega arith)
-busy_at f [] k (suc i) lt le c o = absurd (omega arith)
-busy_at f (e ∷ es) zero (suc i) lt le c o = rw (eq-eqb e.core f.core c, o) refl
-busy_at f (e ∷ es) (suc k) (suc i) lt le c o = or_true (eqb e.core f.core && overlaps e f) (busy_at f es k i (omega arith) (omega arith) c o)
-  where
-    or_true : (a : Bool) {b : Bool} → b ≡ true → (a || b) ≡ true
-    or_true true h = refl
-    or_true false h = h
+busy_at f es k i lt le c o = any_first (λ e. (eqb e.core f.core) && overlaps e f) es k i lt le (and_from (eqb (entry_at es k).core f.core) (overlaps (entry_at es k) f) (eq-eqb (entry_at es k).core f.core c) o)
 
 -- One that overlaps none of them is free.
 pub free_at : (f : Entry) (es : List Entry) (i : ℕ) → i ≤ length es → ((k : ℕ) → k < i → (entry_at es k).core ≡ f.core → overlaps (entry_at es k) f ≡ false) → is_busy f (take i es) ≡ false
-free_at f es zero le h = refl
-free_at f [] (suc i) le h = refl
-free_at f (e ∷ es) (suc i) le h = both (eqb e.core f.core) (overlaps e f) (λ c. h 0 (omega arith) (eqb-true e.core f.core c)) (free_at f es i (omega arith) (λ k lt c. h (suc k) (omega arith) c))
+free_at f es i le h =
+    none_first (λ e. (eqb e.core f.core) && overlaps e f) es i le (λ k l. both (eqb (entry_at es k).core f.core) (overlaps (entry_at es k) f) (λ c. h k l (eqb-true (entry_at es k).core f.core c)))
   where
-    both : (a b : Bool) {c : Bool} → (a ≡ true → b ≡ false) → c ≡ false → ((a && b) || c) ≡ false
-    both true b h e = rw (h refl) e
-    both false b h e = e
+    both : (a b : Bool) → (a ≡ true → b ≡ false) → (a && b) ≡ false
+    both true b h = h refl
+    both false b h = refl
 
 -- ---- what is known at a ticket
 

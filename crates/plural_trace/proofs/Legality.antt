@@ -1,9 +1,9 @@
 -- A log is legal exactly if no rule fails at any place.
 use Rattle.std.proofs.Common.{◌≡◌, ◌≢◌, ℕ, zero, suc, ◌+◌, ◌-◌, ◌*◌, ◌<◌, ◌≤◌, Bool, true, false, not, ◌||◌, ◌&&◌, eqb, ltb, List, [], ◌∷◌, length, map, take, get_or, Option, Some, None, refl, sym, ap, subst, ◌∙◌, arith, inl, inr, ⊎_elim}
 use Rattle.std.specs.Prelude.{slice_index}
-use Rattle.std.specs.List.{All, AllPairs, list_any}
+use Rattle.std.specs.List.{All, AllPairs}
 use Rattle.std.specs.Option.{option_map_or}
-use Rattle.std.proofs.lemmas.Bool.{cases_lt, and_parts, and_cases, or_parts, or_left, or_right, eq-eqb, ne_eqb, eqb-true, lt-ltb, not-false, false_from_ne_true, true≢false}
+use Rattle.std.proofs.lemmas.Bool.{cases_lt, and_parts, and_cases, or_parts, eq-eqb, ne_eqb, eqb-true, lt-ltb, not-false, false_from_ne_true, true≢false}
 use Rattle.std.proofs.lemmas.List.{length-map, get_or_default, ext_get_or}
 use Rattle.std.proofs.lemmas.List.Elements.{All-from_get_or, All-nil, All-cons}
 use Rattle.std.proofs.lemmas.List.Folds.{list_any_none, Any-from_list_any, list_any-from_Any}
@@ -16,14 +16,15 @@ use Rattle.plural_reach.specs.Chains.{Before}
 use Rattle.plural_serial.specs.declared.record_.Record.{Record}
 use Rattle.plural_trace.specs.declared.entry.Entry.{Entry}
 use Rattle.plural_trace.specs.Logs.{LogValue}
-use Rattle.plural_trace.specs.Rules.{no_entry, entry_at, is_of, record_for, is_same_end, is_same_record, is_recorded, has_instance, lacks_instance, breaks_records, is_drawn, breaks_tickets, BreaksOrder, is_busy, overlaps, breaks_cores, breaks_rise, is_same_outcome, is_outcome, breaks_outcomes, breaks_words}
+use Rattle.plural_trace.specs.Rules.{no_entry, entry_at, is_of, record_for, is_same_end, is_same_record, is_recorded, has_instance, lacks_instance, breaks_records, is_ticket, is_drawn, breaks_tickets, BreaksOrder, is_busy, overlaps, breaks_cores, breaks_rise, is_same_outcome, is_outcome, breaks_outcomes, breaks_words}
 use Rattle.plural_trace.specs.Legality.{IsOther, HasEntry, HasRecords, OtherTickets, HasTickets, KeepsOrder, Apart, HasCores, Rises}
 use Rattle.plural_trace.specs.Verdicts.{Expected, Records, Tickets, Order, Cores, Rise, Outcomes, Words, NoneFails, IsLegal}
 use Rattle.plural_trace.specs.Laws.{LegalExactly, YesExactly}
 use Rattle.plural_trace.specs.declared.verdict.Verdict.TheVariants.{Yes, No}
 use Rattle.plural_trace.proofs.RecordLookup.{record_test, missing_test}
 use Rattle.plural_trace.proofs.SerialResults.{outcome_test}
-use Rattle.plural_trace.proofs.TicketLemmas.{below_when, fits_when}
+use Rattle.plural_trace.proofs.EntryPlaces.{any_first, none_first}
+use Rattle.plural_trace.proofs.TicketLemmas.{below_when, four_false, fits_when}
 use Rattle.plural_trace.proofs.CoreSweep.{apart_free, busy_at, free_at}
 
 -- ---- places of entries
@@ -32,19 +33,6 @@ use Rattle.plural_trace.proofs.CoreSweep.{apart_free, busy_at, free_at}
 pairs_from : (R : Entry → Entry → Type 0) (es : List Entry) → ((i j : ℕ) → i < j → j < length es → R (entry_at es i) (entry_at es j)) → AllPairs R es
 pairs_from R es h i j d lt l =
     subst (λ (e : Entry). R e (get_or es j d)) (get_or_default es i no_entry d (omega arith)) (subst (λ (f : Entry). R (entry_at es i) f) (get_or_default es j no_entry d l) (h i j lt l))
-
--- A test that an entry before place i passes.
-any_first : (p : Entry → Bool) (es : List Entry) (k i : ℕ) → k < i → i ≤ length es → p (entry_at es k) ≡ true → list_any p (take i es) ≡ true
-any_first p es k zero lt le h = absurd (omega arith)
-any_first p [] k (suc i) lt le h = absurd (omega arith)
-any_first p (e ∷ es) zero (suc i) lt le h = or_left (p e) (list_any p (take i es)) h
-any_first p (e ∷ es) (suc k) (suc i) lt le h = or_right (p e) (list_any p (take i es)) (any_first p es k i (omega arith) (omega arith) h)
-
--- A test that none of them passes.
-none_first : (p : Entry → Bool) (es : List Entry) (i : ℕ) → i ≤ length es → ((k : ℕ) → k < i → p (entry_at es k) ≡ false) → list_any p (take i es) ≡ false
-none_first p es zero le h = refl
-none_first p [] (suc i) le h = refl
-none_first p (e ∷ es) (suc i) le h = ap (λ b. b || list_any p (take i es)) (h 0 (omega arith)) ∙ none_first p es i (omega arith) (λ k l. h (suc k) (omega arith))
 
 -- What isn't so is false, if it leads to nothing.
 refuted : (b : Bool) → (b ≡ true → ⊥) → b ≡ false
@@ -145,17 +133,7 @@ records_kept rs es h i l = elim (cases_lt i (length es)) [
 
 -- ---- tickets
 
--- The number is a ticket of the entry.
-is_ticket : ℕ → Entry → Bool
-is_ticket x e = eqb e.start x || eqb e.end_at x
-
-drawn_list : (x : ℕ) (es : List Entry) → is_drawn x es ≡ list_any (is_ticket x) es
-unfolding is_ticket
-drawn_list x [] = refl
-drawn_list x (e ∷ es) = ap (λ b. is_ticket x e || b) (drawn_list x es)
-
 ticket_parts : (x : ℕ) (e : Entry) → is_ticket x e ≡ false → (e.start ≢ x) × (e.end_at ≢ x)
-unfolding is_ticket
 ticket_parts x e h =
     let p = or_parts (eqb e.start x) (eqb e.end_at x) h in (
       (λ s. true≢false (sym (eq-eqb e.start x s) ∙ p.0)),
@@ -163,30 +141,23 @@ ticket_parts x e h =
     )
 
 ticket_none : (x : ℕ) (e : Entry) → e.start ≢ x → e.end_at ≢ x → is_ticket x e ≡ false
-unfolding is_ticket
 ticket_none x e a b = rw (ne_eqb e.start x a, ne_eqb e.end_at x b) refl
 
 undrawn_at : (x : ℕ) (es : List Entry) (k i : ℕ) → is_drawn x (take i es) ≡ false → k < i → i ≤ length es → ((entry_at es k).start ≢ x) × ((entry_at es k).end_at ≢ x)
 undrawn_at x es k i h lt le =
-    ticket_parts x (entry_at es k) (refuted (is_ticket x (entry_at es k)) (λ t. true≢false (sym (any_first (is_ticket x) es k i lt le t) ∙ (sym (drawn_list x (take i es)) ∙ h))))
+    ticket_parts x (entry_at es k) (refuted (is_ticket x (entry_at es k)) (λ t. true≢false (sym (any_first (is_ticket x) es k i lt le t) ∙ h)))
 
 undrawn_all : (x : ℕ) (es : List Entry) (i : ℕ) → i ≤ length es → ((k : ℕ) → k < i → ((entry_at es k).start ≢ x) × ((entry_at es k).end_at ≢ x)) → is_drawn x (take i es) ≡ false
-undrawn_all x es i le h = drawn_list x (take i es) ∙ none_first (is_ticket x) es i le (λ k l. ticket_none x (entry_at es k) (h k l).0 (h k l).1)
-
-four_parts : (a b c d : Bool) → (a || b || c || d) ≡ false → (c ≡ false) × (d ≡ false)
-four_parts a b c d h =
-    let p = or_parts (a || b || c) d h in
-    let q = or_parts (a || b) c p.0 in
-    (q.1, p.1)
+undrawn_all x es i le h = none_first (is_ticket x) es i le (λ k l. ticket_none x (entry_at es k) (h k l).0 (h k l).1)
 
 tickets_legal : (es : List Entry) → ((i : ℕ) → i < length es → breaks_tickets es i ≡ false) → HasTickets es
 tickets_legal es h = record {
   intervals = All-from_get_or (λ (e : Entry). (e.start < e.end_at) × (e.end_at < 2 * length es)) es no_entry (λ i l. let f = fits_when es i (h i l) in (f.0, f.1));
   differ = pairs_from OtherTickets es (λ i j lt l.
       let e = entry_at es j in
-      let p = four_parts (not (ltb e.start e.end_at)) (not (ltb e.end_at (2 * length es))) (is_drawn e.start (take j es)) (is_drawn e.end_at (take j es)) (h j l) in
-      let a = undrawn_at e.start es i j p.0 lt (omega arith) in
-      let b = undrawn_at e.end_at es i j p.1 lt (omega arith) in
+      let p = four_false (not (ltb e.start e.end_at)) (not (ltb e.end_at (2 * length es))) (is_drawn e.start (take j es)) (is_drawn e.end_at (take j es)) (h j l) in
+      let a = undrawn_at e.start es i j p.2 lt (omega arith) in
+      let b = undrawn_at e.end_at es i j p.3 lt (omega arith) in
       record { starts = a.0; start_end = b.0; end_start = a.1; ends = b.1 });
 }
 

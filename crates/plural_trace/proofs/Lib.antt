@@ -1,4 +1,5 @@
 pub mod LeastPlaces
+pub mod EntryPlaces
 pub mod TicketLemmas
 pub mod LatestEnds
 pub mod CoreSweep

@@ -2,29 +2,25 @@
 use Rattle.std.proofs.Common.{◌≡◌, ℕ, zero, suc, ◌+◌, ◌*◌, ◌<◌, ◌≤◌, Bool, true, false, not, ◌||◌, eqb, ltb, List, [], ◌∷◌, length, take, set, get_or, None, refl, sym, ap, ◌∙◌, arith}
 use Rattle.std.specs.List.{All}
 use Rattle.std.proofs.lemmas.List.{length-set, get_or_default}
+use Rattle.std.proofs.lemmas.List.Folds.{list_any_more}
+use Rattle.std.proofs.lemmas.Bool.{or_parts}
 use Rattle.std.proofs.lemmas.Bool.Decides.{nat_tests}
 use Rattle.plural_trace.specs.Least.{least}
-use Rattle.plural_trace.specs.Rules.{no_entry, entry_at, is_drawn, breaks_tickets}
+use Rattle.plural_trace.specs.Rules.{no_entry, entry_at, is_ticket, is_drawn, breaks_tickets}
 use Rattle.plural_trace.specs.declared.entry.Entry.{Entry}
 use Rattle.plural_trace.proofs.LeastPlaces.{least_none}
 
 -- The tickets of one more entry.
 is_drawn-next : (x i : ℕ) (es : List Entry) → i < length es → is_drawn x (take (i + 1) es) ≡ (is_drawn x (take i es) || (eqb (entry_at es i).start x || eqb (entry_at es i).end_at x))
-is_drawn-next x i es lt = ap (λ n. is_drawn x (take n es)) (let s : i + 1 ≡ suc i = omega arith in s) ∙ more x i es lt
-  where
-    or_nothing : (b : Bool) → (b || false) ≡ b
-    or_nothing true = refl
-    or_nothing false = refl
+is_drawn-next x i es lt = list_any_more (is_ticket x) es i no_entry lt
 
-    or_turned : (a b c d : Bool) → (a || b || (c || d)) ≡ ((a || b || c) || d)
-    or_turned true b c d = refl
-    or_turned false true c d = refl
-    or_turned false false c d = refl
-
-    more : (x i : ℕ) (es : List Entry) → i < length es → is_drawn x (take (suc i) es) ≡ (is_drawn x (take i es) || (eqb (entry_at es i).start x || eqb (entry_at es i).end_at x))
-    more x i [] lt = absurd (let h : ⊥ = omega arith in h)
-    more x zero (e ∷ es) lt = or_nothing _
-    more x (suc i) (e ∷ es) lt = ap (λ b. eqb e.start x || eqb e.end_at x || b) (more x i es (omega arith)) ∙ or_turned (eqb e.start x) (eqb e.end_at x) (is_drawn x (take i es)) _
+-- Four tests of which one or the other passes don't if none does.
+pub four_false : (a b c d : Bool) → (a || b || c || d) ≡ false → (a ≡ false) × (b ≡ false) × (c ≡ false) × (d ≡ false)
+four_false a b c d h =
+    let p = or_parts (a || b || c) d h in
+    let q = or_parts (a || b) c p.0 in
+    let r = or_parts a b q.0 in
+    (r.0, r.1, q.1, p.1)
 
 or_same : (a b c d c' d' : Bool) → (a ≡ false → b ≡ false → (c ≡ c') × (d ≡ d')) → (a || b || c || d) ≡ (a || b || c' || d')
 or_same true b c d c' d' h = refl
@@ -48,13 +44,8 @@ tickets_test es marks i h =
 -- Fine tickets are an interval below twice the number of entries.
 pub fits_when : (es : List Entry) (i : ℕ) → breaks_tickets es i ≡ false → ((entry_at es i).start < (entry_at es i).end_at) × ((entry_at es i).end_at < 2 * length es)
 fits_when es i e =
-    let o = or_none _ _ _ _ e in
+    let o = four_false _ _ _ _ e in
     (below_when (entry_at es i).start (entry_at es i).end_at o.0, below_when (entry_at es i).end_at (2 * length es) o.1)
-  where
-    or_none : (a b c d : Bool) → (a || b || c || d) ≡ false → (a ≡ false) × (b ≡ false)
-    or_none true b c d e = absurd (cc e)
-    or_none false true c d e = absurd (cc e)
-    or_none false false c d e = (refl, refl)
 
 mark_two : (m : List Bool) (s t x : ℕ) → s < length m → t < length m → get_or (set (set m s true) t true) x false ≡ (get_or m x false || (eqb s x || eqb t x))
 mark_two m s t x ls lt =

@@ -69,10 +69,13 @@ breaks_records records es i =
     then not (is_recorded records r) || has_instance r.t r.k (take i es)
     else lacks_instance records es
 
+-- The number is a ticket of the entry.
+abbrev pub is_ticket : ℕ → Entry → Bool
+is_ticket x e = (e.start == x) || (e.end_at == x)
+
 -- The number is a ticket of one of the entries.
 abbrev pub is_drawn : ℕ → List Entry → Bool
-is_drawn x [] = false
-is_drawn x (e ∷ es) = (e.start == x) || (e.end_at == x) || is_drawn x es
+is_drawn x es = list_any (is_ticket x) es
 
 -- 2: the start of entry i isn't below its end, the end isn't below twice the number of entries, or one of its tickets
 -- is a ticket of an earlier entry.
@@ -96,8 +99,7 @@ overlaps e f = not (nat_lt e.end_at f.start) && not (nat_lt f.end_at e.start)
 
 -- The interval of f overlaps one of those of its core.
 abbrev pub is_busy : Entry → List Entry → Bool
-is_busy f [] = false
-is_busy f (e ∷ es) = ((e.core == f.core) && overlaps e f) || is_busy f es
+is_busy f es = list_any (λ e. (e.core == f.core) && overlaps e f) es
 
 -- 4: the core of entry i isn't below the number of cores, or its interval overlaps an earlier entry's of the same core.
 abbrev pub breaks_cores : (cores : ℕ) → List Entry → (i : ℕ) → Bool
