@@ -27,7 +27,7 @@ place_take (x ∷ xs) (suc i) t h = by (eqb x t) (λ k. place_take xs i t k) h
     by false later k = omega (arith, later k)
 
 -- A number of a list is at its place.
-pub place_there : (xs : List ℕ) (t : ℕ) → is_among t xs ≡ true → (place_in xs t < length xs) × (get_or xs (place_in xs t) 0 ≡ t)
+place_there : (xs : List ℕ) (t : ℕ) → is_among t xs ≡ true → (place_in xs t < length xs) × (get_or xs (place_in xs t) 0 ≡ t)
 place_there [] t h = absurd cc
 place_there (x ∷ xs) t h = by (eqb x t) refl (λ k. place_there xs t k) h
   where
@@ -126,8 +126,3 @@ before_decided tasks reaches t u = ⊎_elim
 -- No task comes before itself.
 pub never_itself : NeverItself
 never_itself tasks reaches t h = absurd (omega (arith, before_rises tasks reaches t t h))
-
--- Of two tasks one comes before the other at most.
-pub apart : (tasks : List TaskValue) → Reaches tasks → (t u : ℕ) → comes_before tasks t u ≡ true → comes_before tasks u t ≡ false
-apart tasks reaches t u h = false_from_ne_true (comes_before tasks u t) (λ k.
-    omega (arith, before_rises tasks reaches t u ((before_test tasks reaches t u).0 h), before_rises tasks reaches u t ((before_test tasks reaches u t).0 k)))

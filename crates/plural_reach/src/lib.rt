@@ -3,7 +3,7 @@
 //! Promise: `Reach::before` answers whether a chain of dependencies leads from one task to another
 //! (`specs/Chains.antt`), and `Needs::exclusive` whether two tasks are exclusive branches, of which at most one runs
 //! (`specs/Branches.antt`). Both tables are made in one pass over the map's order, and take no memory. The laws say
-//! that coming before is decided by a test over the tasks alone, goes through, and follows the order.
+//! that coming before is decided by a test over the tasks alone, is transitive, and follows the order.
 //! Stands on `plural_map` (tasks and their order). The checker of clashes, `plural_crew`, and the legality of logs,
 //! `plural_trace`, stand on it.
 #![tactic(auto)]

@@ -23,7 +23,7 @@ no_start : Started
 no_start = record { t = 0; k = 0; start = [] }
 
 -- Each instance that ran is one of the map.
-pub ran_each : (p : ProgramValue) (m : List ℕ) → IsMap p.map → All (λ (s : Started). (s.t < length p.map.tasks) × (s.k < (task_at p s.t).quota)) (serial_of p m).ran
+ran_each : (p : ProgramValue) (m : List ℕ) → IsMap p.map → All (λ (s : Started). (s.t < length p.map.tasks) × (s.k < (task_at p s.t).quota)) (serial_of p m).ran
 ran_each p m limits =
     let ran = (serial_of p m).ran in
     All-from_get_or (λ (s : Started). (s.t < length p.map.tasks) × (s.k < (task_at p s.t).quota)) ran no_start
@@ -35,7 +35,7 @@ ran_each p m limits =
     ran_instances p m limits s.t s.k there)
 
 -- The record of an instance of the map, from any memory.
-pub record_made : (p : ProgramValue) (s : Started) → IsProgram p → IsMap p.map → s.t < length p.map.tasks → s.k < (task_at p s.t).quota → IsRecord p.map (record_of p s)
+record_made : (p : ProgramValue) (s : Started) → IsProgram p → IsMap p.map → s.t < length p.map.tasks → s.k < (task_at p s.t).quota → IsRecord p.map (record_of p s)
 record_made p s program limits within below =
     let w = whole_lives p s.t s.k s.start program limits within below in
     record {

@@ -45,12 +45,12 @@ task_is p r t = by (decided (task_at p t) r.outcomes)
 -- ---- outcomes
 
 -- Tasks keep the number of outcomes.
-pub outcomes_long : (p : ProgramValue) (ts : List ℕ) (r : Run) → length (fold (with_task p) r ts).outcomes ≡ length r.outcomes
+outcomes_long : (p : ProgramValue) (ts : List ℕ) (r : Run) → length (fold (with_task p) r ts).outcomes ≡ length r.outcomes
 outcomes_long p [] r = refl
 outcomes_long p (t ∷ ts) r = outcomes_long p ts (with_task p r t) ∙ (ap (λ (x : Run). length x.outcomes) (task_is p r t) ∙ length-set _ _ _)
 
 -- Tasks leave the outcomes of others.
-pub outcome_else : (p : ProgramValue) (ts : List ℕ) (r : Run) (u : ℕ) → is_among u ts ≡ false → outcome_at (fold (with_task p) r ts).outcomes u ≡ outcome_at r.outcomes u
+outcome_else : (p : ProgramValue) (ts : List ℕ) (r : Run) (u : ℕ) → is_among u ts ≡ false → outcome_at (fold (with_task p) r ts).outcomes u ≡ outcome_at r.outcomes u
 outcome_else p [] r u h = refl
 outcome_else p (t ∷ ts) r u h =
     let q = or_parts (eqb t u) (is_among u ts) h in
@@ -58,7 +58,7 @@ outcome_else p (t ∷ ts) r u h =
     outcome_else p ts (with_task p r t) u q.1 ∙ (ap (λ (x : Run). outcome_at x.outcomes u) (task_is p r t) ∙ get_or-set_other r.outcomes t u (Some (result_of (decided (task_at p t) r.outcomes) p t r.memory)) None ne)
 
 -- A task has the outcome that is decided.
-pub outcome_own : (p : ProgramValue) (r : Run) (t : ℕ) → t < length r.outcomes → outcome_at (with_task p r t).outcomes t ≡ Some (result_of (decided (task_at p t) r.outcomes) p t r.memory)
+outcome_own : (p : ProgramValue) (r : Run) (t : ℕ) → t < length r.outcomes → outcome_at (with_task p r t).outcomes t ≡ Some (result_of (decided (task_at p t) r.outcomes) p t r.memory)
 outcome_own p r t l = ap (λ (x : Run). outcome_at x.outcomes t) (task_is p r t) ∙ get_or-set_at r.outcomes t t _ None refl l
 
 no_outcome : Option Outcome
@@ -72,15 +72,15 @@ outcomes_each p m = outcomes_long p p.map.order (opening p m) ∙ length-replica
 -- ---- who ran
 
 -- The instances of two lists in a row.
-pub insts_append : (xs ys : List Started) → insts (xs ++ ys) ≡ insts xs ++ insts ys
+insts_append : (xs ys : List Started) → insts (xs ++ ys) ≡ insts xs ++ insts ys
 insts_append xs ys = map-append instance_of xs ys
 
 -- An instance is in two lists in a row if it is in one of them.
-pub in_insts : (i : Inst) (xs ys : List Started) → is_in i (insts (xs ++ ys)) ≡ (is_in i (insts xs) || is_in i (insts ys))
+in_insts : (i : Inst) (xs ys : List Started) → is_in i (insts (xs ++ ys)) ≡ (is_in i (insts xs) || is_in i (insts ys))
 in_insts i xs ys = ap (is_in i) (insts_append xs ys) ∙ list_any-append (same i) (insts xs) (insts ys)
 
 -- The first n instances of task t are those of the numbers below n.
-pub instances_in : (p : ProgramValue) (t n : ℕ) (m : List ℕ) (u k : ℕ) → is_in (u, k) (insts (instances p t n m).ran) ≡ (eqb u t && ltb k n)
+instances_in : (p : ProgramValue) (t n : ℕ) (m : List ℕ) (u k : ℕ) → is_in (u, k) (insts (instances p t n m).ran) ≡ (eqb u t && ltb k n)
 unfolding instances
 instances_in p t zero m u k = rw (le-ltb k 0 (omega arith)) (last (eqb u t))
   where
@@ -117,13 +117,13 @@ stretch_own decision.Skip p t m k = refl
 stretch_own decision.Run p t m k = instances_in p t (task_at p t).quota m t k ∙ rw (eq-eqb t t refl) refl
 
 -- What tasks add to a run: instances of these tasks alone.
-pub record RanMore (p : ProgramValue) (ts : List ℕ) (r : Run) : Type 0 where
+record RanMore (p : ProgramValue) (ts : List ℕ) (r : Run) : Type 0 where
   pub extra : List Started
   pub ran : (fold (with_task p) r ts).ran ≡ r.ran ++ extra
   pub none : (u k : ℕ) → is_among u ts ≡ false → is_in (u, k) (insts extra) ≡ false
 
 -- Tasks add instances of their own alone.
-pub ran_more : (p : ProgramValue) (ts : List ℕ) (r : Run) → RanMore p ts r
+ran_more : (p : ProgramValue) (ts : List ℕ) (r : Run) → RanMore p ts r
 ran_more p [] r = record { extra = []; ran = sym (append-nil r.ran); none = λ u k h. refl }
 ran_more p (t ∷ ts) r =
     let s = stretch_of (decided (task_at p t) r.outcomes) p t r.memory in
@@ -139,7 +139,7 @@ ran_more p (t ∷ ts) r =
 -- ---- memories
 
 -- Two chains in a row.
-pub chain_append : (p : ProgramValue) (m n o : List ℕ) (xs ys : List Started) → Chain p m xs n → Chain p n ys o → Chain p m (xs ++ ys) o
+chain_append : (p : ProgramValue) (m n o : List ℕ) (xs ys : List Started) → Chain p m xs n → Chain p n ys o → Chain p m (xs ++ ys) o
 chain_append p m n o [] ys c d = subst (λ (l : List ℕ). Chain p l ys o) (sym c) d
 chain_append p m n o (x ∷ xs) ys c d = (c.0, chain_append p (life_of p x.t x.k m).memory n o xs ys c.1 d)
 

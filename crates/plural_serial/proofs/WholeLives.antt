@@ -26,11 +26,11 @@ pub lives_set : (p : ProgramValue) (t k : ℕ) (m : List ℕ) → (life_of p t k
 lives_set p t k m = set_life (task_at p t).budget (place_at p t k) (start_state p t k) m
 
 -- An instance keeps the number of words.
-pub lives_long : (p : ProgramValue) (t k : ℕ) (m : List ℕ) → length (life_of p t k m).memory ≡ length m
+lives_long : (p : ProgramValue) (t k : ℕ) (m : List ℕ) → length (life_of p t k m).memory ≡ length m
 lives_long p t k m = words_kept (task_at p t).budget (place_at p t k) (start_state p t k) m
 
 -- An instance stores where it may write, inside the memory.
-pub stores_within : (p : ProgramValue) (t k : ℕ) (m : List ℕ) → IsMap p.map → t < length p.map.tasks → k < (task_at p t).quota
+stores_within : (p : ProgramValue) (t k : ℕ) (m : List ℕ) → IsMap p.map → t < length p.map.tasks → k < (task_at p t).quota
     → All (λ s. (may_write (task_at p t).regions k s.0 ≡ true) × (s.0 < p.map.words)) (life_of p t k m).stores
 stores_within p t k m limits within below = λ i d l.
     let w = (guarded_life (task_at p t).budget (place_at p t k) (start_state p t k) m).stores i d l in

@@ -4,7 +4,8 @@
 //! (`specs/Serial.antt`), for every program and every opening image.
 //! Each instance runs over a cache that is empty at its start, by way of `Cached`, the port of a cache over any bus.
 //! Stands on `plural_map` (the order and the decisions), `plural_core` (the life of an instance) and `plural_cache`.
-//! Everything that runs on many cores is compared with it.
+//! Everything that runs on many cores is compared with it. The laws say what the serial run is: which instances run and
+//! in which order, from which memories, with which outcomes and records (`specs/Laws.antt`, `specs/Records.antt`).
 #![tactic(auto)]
 
 mod answer;
