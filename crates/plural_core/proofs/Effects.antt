@@ -1,5 +1,6 @@
 -- A word laid out for execution does what the row of the word does.
-use Rattle.std.proofs.Common.{ltb, length, slice_index, ℕ, ◌≡◌, ◌*◌, ◌/◌, ◌^◌, ◌<◌, true, List, [], Option, Some, None, arith, refl, ap, sym, ◌∙◌}
+use Rattle.std.proofs.Common.{ltb, length, slice_index, ℕ, ◌≡◌, ◌*◌, ◌/◌, ◌^◌, ◌<◌, zero, suc, true, List, [], ◌∷◌, map, get_or, Option, Some, None, arith, refl, ap, sym, subst, ◌∙◌}
+use Rattle.std.proofs.lemmas.List.{length-map}
 use Rattle.plural_isa.specs.Fields.{rd}
 use Rattle.plural_isa.specs.Table.{operation_of}
 use Rattle.plural_isa.specs.FlatInstrs.{flat_of, mnemonic_of, row_mnemonic, row_imm}
@@ -61,12 +62,20 @@ same_place code regions c s m (a.Write address width value) = refl
 same_place code regions c s m a.Finish = refl
 same_place code regions c s m (a.Trap cause) = refl
 
+flat_at : (code : List ℕ) (i : ℕ) (d : FlatInstr) → i < length (map flat_of code) → get_or (map flat_of code) i d ≡ flat_of (slice_index code i)
+flat_at [] i d h = absurd (omega arith)
+flat_at (w ∷ ws) zero d h = refl
+flat_at (w ∷ ws) (suc i) d h = flat_at ws i d (omega arith)
+
 -- The turn of a core is the effect of the code's word at its pc, laid out for execution.
-pub turn_is : (code : List ℕ) (regions : List Region) (c : Core) (m : List ℕ) (w : ℕ) (i : FlatInstr) → c.state.pc < 4 * length code → w ≡ slice_index code (c.state.pc / 4) → w < 2 ^ 32 → i ≡ flat_of (slice_index code (c.state.pc / 4))
-    → turn_of code regions c m ≡ does (place_of [] regions c) c.state m (effect_of i c.state.registers c.state.pc)
+pub turn_is : (code : List ℕ) (regions : List Region) (c : Core) (m : List ℕ) (w : ℕ) (flat : List FlatInstr) (i d : FlatInstr) → flat ≡ map flat_of code → c.state.pc / 4 < length flat → i ≡ get_or flat (c.state.pc / 4) d
+    → w ≡ slice_index code (c.state.pc / 4) → w < 2 ^ 32 → turn_of code regions c m ≡ does (place_of [] regions c) c.state m (effect_of i c.state.registers c.state.pc)
 unfolding turn
-turn_is code regions c m w i h e f d =
+turn_is code regions c m w flat i d same below at e f =
     let x = c.state.registers in
     let pc = c.state.pc in
-    ap (does (place_of code regions c) c.state m) (act_is code x pc w h e f ∙ ap (λ i. effect_of i x pc) (ap flat_of e ∙ sym d))
+    let short : pc / 4 < length (map flat_of code) = subst (λ (l : List FlatInstr). pc / 4 < length l) same below in
+    let many = length-map code flat_of in
+    let is : i ≡ flat_of (slice_index code (pc / 4)) = at ∙ ap (λ (l : List FlatInstr). get_or l (pc / 4) d) same ∙ flat_at code (pc / 4) d short in
+    ap (does (place_of code regions c) c.state m) (act_is code x pc w (omega (arith, short, many)) e f ∙ ap (λ i. effect_of i x pc) (ap flat_of e ∙ sym is))
     ∙ same_place code regions c c.state m (effect_of i x pc)

@@ -1,7 +1,8 @@
 //! The core: one instance's registers, pc and count, and its turn.
-ghost use Rattle.std.specs.Prelude.{◌≡◌, ℕ, ◌<◌, ◌≤◌, [], None, true, slice_index};
+ghost use Rattle.std.specs.Prelude.{◌≡◌, ℕ, ◌<◌, ◌≤◌, [], None, true, slice_index, map};
 ghost use Rattle.plural_regions.specs.Rights.{may_read};
 ghost use Rattle.plural_base.specs.Told.{Foresees};
+ghost use Rattle.plural_isa.specs.FlatInstrs.{flat_of};
 ghost use Rattle.plural_core.specs.Turn.{finished, turn_of};
 ghost use Rattle.plural_core.specs.Progress.{live, core_of, end_of};
 ghost use Rattle.plural_core.specs.Recent.{IsRecent};
@@ -13,7 +14,7 @@ use crate::guard::Recent;
 use crate::port::DataPort;
 use crate::progress::{Next, Progress};
 use crate::step::step;
-use plural_isa::{Code, Reg};
+use plural_isa::{Code, FlatInstr, Reg};
 use plural_regions::Region;
 use std::marker::Model;
 
@@ -64,11 +65,13 @@ pub(crate) fn turn_by<P: DataPort>(
     at: &mut Progress,
     registers: &mut [u32; 32],
     code: &Code,
+    flat: &[FlatInstr],
     regions: &[Region],
     recent: &mut Recent,
     port: &mut P,
 ) -> Turn
     requires zero { slice_index registers.old 0 ≡ 0 }
+    requires flat { flat.now ≡ map flat_of code.now }
     requires recent { IsRecent regions.now at.old.k recent.old }
     requires sound { P.is_sound port.old }
     requires lawful { (a : ℕ) → may_read regions.now at.old.k a ≡ true → (P.told port.old).lawful a ≡ true }
@@ -87,7 +90,7 @@ pub(crate) fn turn_by<P: DataPort>(
     ensures bound { at.new.count ≤ at.new.budget }
     ensures within { end_of result ≡ None → at.new.count < at.new.budget }
 {
-    match step(*at, registers, code, regions, recent, port) {
+    match step(*at, registers, code, flat, regions, recent, port) {
         Next::Go { pc } => {
             at.pc = pc;
             at.count += 1;
@@ -174,7 +177,15 @@ impl Hart {
     {
         let mut recent = Recent::none();
         let Hart { at, registers, .. } = self;
-        let turn = turn_by(at, registers, code, regions, &mut recent, port);
+        let turn = turn_by(
+            at,
+            registers,
+            code,
+            code.laid_out(),
+            regions,
+            &mut recent,
+            port,
+        );
         if let Turn::Over(end) = turn {
             self.over = Some(end);
         }

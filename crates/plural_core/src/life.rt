@@ -31,10 +31,19 @@ pub fn run<P: DataPort>(hart: &mut Hart, code: &Code, regions: &[Region], port: 
     ensures words { length (P.told port.new).words ≡ length (P.told port.old).words }
 {
     let mut recent = Recent::none();
+    let flat = code.laid_out();
     let mut at = hart.progress();
     let mut registers = hart.registers();
     loop {
-        match turn_by(&mut at, &mut registers, code, regions, &mut recent, port) {
+        match turn_by(
+            &mut at,
+            &mut registers,
+            code,
+            flat,
+            regions,
+            &mut recent,
+            port,
+        ) {
             Turn::Going => {}
             Turn::Over(end) => {
                 *hart = Hart::ended(at, registers, end);

@@ -1,7 +1,8 @@
 //! One instruction, by its mnemonic.
-ghost use Rattle.std.specs.Prelude.{◌≡◌, ℕ, ◌≤◌, ◌<◌, ◌-◌, ◌*◌, ◌/◌, ◌%◌, [], true, slice_index, List};
+ghost use Rattle.std.specs.Prelude.{◌≡◌, ℕ, ◌≤◌, ◌<◌, ◌-◌, ◌*◌, ◌/◌, ◌%◌, [], true, slice_index, List, map};
 ghost use Rattle.plural_regions.specs.Rights.{may_read};
 ghost use Rattle.plural_base.specs.Told.{Foresees};
+ghost use Rattle.plural_isa.specs.FlatInstrs.{flat_of};
 ghost use Rattle.plural_core.specs.Turn.{does, place_of, turn_of};
 ghost use Rattle.plural_core.specs.Execution.{effect_of};
 ghost use Rattle.plural_core.specs.Progress.{live, counted, core_of, end_of};
@@ -206,18 +207,21 @@ fn perform<P: DataPort>(
     }
 }
 
-/// The instruction at the pc. The word is read for its range alone.
+/// The instruction at the pc, of the code's words laid out for execution. The word is read for its range
+/// alone.
 #[tactic(auto, unfolding(crate::specs::Turn::turn, crate::specs::Act::act))]
 #[inline(always)]
 pub(crate) fn step<P: DataPort>(
     at: Progress,
     registers: &mut [u32; 32],
     code: &Code,
+    flat: &[FlatInstr],
     regions: &[Region],
     recent: &mut Recent,
     port: &mut P,
 ) -> Next
     requires zero { slice_index registers.old 0 ≡ 0 }
+    requires flat { flat.now ≡ map flat_of code.now }
     requires recent { IsRecent regions.now at.k recent.old }
     requires sound { P.is_sound port.old }
     requires lawful { (a : ℕ) → may_read regions.now at.k a ≡ true → (P.told port.old).lawful a ≡ true }
@@ -233,9 +237,11 @@ pub(crate) fn step<P: DataPort>(
     ensures port { Makes P.told P.counts P.stands_for P.keeps P.is_sound port.old port.new
         (turn_of code.now regions.now (live at registers.old) (P.told port.old).words) }
 {
-    if at.pc >= 4 * code.len() {
+    let i = at.pc / 4;
+    if i as usize >= flat.len() {
         return Next::Trap { cause: 1 };
     }
-    code.word(at.pc / 4);
-    perform(at, registers, code.flat(at.pc / 4), regions, recent, port)
+    code.word(i);
+    let instr = flat[i as usize].by_fields();
+    perform(at, registers, instr, regions, recent, port)
 }

@@ -73,12 +73,11 @@ impl Code {
         decode(self.words[i as usize])
     }
 
-    /// The word at place `i`, in words from 0, laid out for execution.
+    /// Its words laid out for execution.
     #[inline(always)]
-    pub fn flat(&self, i: u32) -> FlatInstr
-        requires { i < length self.now }
-        ensures { result ≡ flat_of (slice_index self.now i) }
+    pub fn laid_out(&self) -> &[FlatInstr]
+        ensures { result.now ≡ map flat_of self.now }
     {
-        self.flat[i as usize]
+        self.flat.as_slice()
     }
 }

@@ -75,6 +75,22 @@ pub struct FlatInstr {
     pub imm: i32,
 }
 
+impl FlatInstr {
+    /// A copy that is read field by field, so that each field stands in a register of its own.
+    #[inline(always)]
+    pub fn by_fields(&self) -> FlatInstr
+        ensures { result ≡ self.now }
+    {
+        FlatInstr {
+            mnemonic: self.mnemonic,
+            rd: self.rd,
+            rs1: self.rs1,
+            rs2: self.rs2,
+            imm: self.imm,
+        }
+    }
+}
+
 /// The mnemonic of a conditional branch.
 fn branch_mnemonic(op: BranchOp) -> Mnemonic
     ensures { result ≡ branch_mnemonic op }

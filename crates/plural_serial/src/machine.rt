@@ -20,6 +20,7 @@ use plural_map::{Decision, Outcome, decide};
 use std::alloc::Global;
 
 /// Runs instance k of task t over the memory, by way of the cache, which is emptied first, and answers its record.
+#[inline(never)]
 fn run_instance(cache: &mut Cache, flat: &mut Flat, program: &Program, t: u32, k: u32) -> Record
     requires shape { IsShaped program.now.map cache.old }
     requires words { length flat.old.words ≡ program.now.map.words }
