@@ -1,12 +1,12 @@
 -- A word that a text begins with is its first token if nothing or a blank follows.
-use Rattle.std.proofs.Common.{◌≡◌, ℕ, ◌+◌, ◌<◌, Bool, true, false, List, [], ◌∷◌, ◌++◌, length, take, drop, refl, sym, ap, ◌∙◌, arith}
+use Rattle.std.proofs.Common.{◌≡◌, ℕ, ◌+◌, ◌<◌, Bool, true, false, List, [], ◌∷◌, ◌++◌, length, take, drop, refl, sym, ap, ◌∙◌, arith, append_assoc}
 use Rattle.std.specs.Prelude.{not, bytes_eq, filter}
 use Rattle.std.specs.List.{list_all, slice_split, onto_first}
 use Rattle.std.proofs.lemmas.Bool.{and_parts, not-true, lt-ltb, ltb-true, cond-true, cond-false}
 use Rattle.std.proofs.lemmas.List.{take-append-drop, length-append, append-nil}
 use Rattle.std.proofs.lemmas.Slice.Eq.{bytes_eq-Decides}
 use Rattle.plural_bytes.specs.Lines.{is_blank, has_text, drop_while, tokens}
-use Rattle.plural_bytes.specs.Words.{is_one_word, ends_token}
+use Rattle.plural_bytes.specs.Words.{is_one_word, ends_token, spaced}
 use Rattle.plural_bytes.proofs.Cuts.{tokens_trimmed}
 
 -- ---- the first piece of a text
@@ -15,15 +15,15 @@ record Cut (text : List ℕ) : Type 0 where
   first : List ℕ
   others : List (List ℕ)
   is : slice_split is_blank text ≡ first ∷ others
-  front : take (length first) text ≡ first
+  prefix : take (length first) text ≡ first
 
 cut : (text : List ℕ) → Cut text
-cut [] = record { first = []; others = []; is = refl; front = refl }
+cut [] = record { first = []; others = []; is = refl; prefix = refl }
 cut (c ∷ cs) = by (is_blank c) refl (cut cs)
   where
     by : (b : Bool) → is_blank c ≡ b → Cut cs → Cut (c ∷ cs)
-    by true e h = record { first = []; others = slice_split is_blank cs; is = rw e refl; front = refl }
-    by false e h = record { first = c ∷ h.first; others = h.others; is = rw (e, h.is) refl; front = ap (λ (x : List ℕ). c ∷ x) h.front }
+    by true e h = record { first = []; others = slice_split is_blank cs; is = rw e refl; prefix = refl }
+    by false e h = record { first = c ∷ h.first; others = h.others; is = rw (e, h.is) refl; prefix = ap (λ (x : List ℕ). c ∷ x) h.prefix }
 
 -- Before a text at which a token ends the first piece is empty.
 none_first : (r : List ℕ) (h : Cut r) → ends_token r ≡ true → h.first ≡ []
@@ -76,8 +76,14 @@ word_longer w r ts word ends f =
     omega (arith, length-append w h.first, ap length longer)
 
 -- A text that begins with a word is the word and what follows it.
-pub front_word : (t w : List ℕ) → bytes_eq (take (length w) t) w ≡ true → w ++ drop (length w) t ≡ t
-front_word t w e = ap (λ (x : List ℕ). x ++ drop (length w) t) (sym ((bytes_eq-Decides (take (length w) t) w).0 e)) ∙ take-append-drop (length w) t
+pub prefix_word : (t w : List ℕ) → bytes_eq (take (length w) t) w ≡ true → w ++ drop (length w) t ≡ t
+prefix_word t w e = ap (λ (x : List ℕ). x ++ drop (length w) t) (sym ((bytes_eq-Decides (take (length w) t) w).0 e)) ∙ take-append-drop (length w) t
+
+-- A word that stands between two spaces at the beginning of a text is its first token.
+pub spaced_ahead : (text printed w rest : List ℕ) → printed ≡ spaced w → is_one_word w ≡ true → bytes_eq (take (length printed) text) printed ≡ true → rest ≡ drop (length printed) text → tokens text ≡ w ∷ tokens rest
+spaced_ahead text printed w rest e word begins r =
+    let whole : 32 ∷ (w ++ 32 ∷ rest) ≡ text = ap (λ (x : List ℕ). 32 ∷ x) (sym (append_assoc w (32 ∷ []) rest)) ∙ ap (λ x. x ++ rest) (sym e) ∙ ap (λ x. printed ++ x) r ∙ prefix_word text printed begins in
+    ap tokens (sym whole) ∙ word_ahead w (32 ∷ rest) word refl
 
 -- ---- a text that doesn't
 
@@ -109,6 +115,6 @@ word_missed text w ts e f = by (ends_token t) refl
         let h = cut t in
         let g : h.first ∷ filter has_text h.others ≡ w ∷ ts = sym (ap (filter has_text) h.is ∙ kept h.first h.others (some_first t h ends)) ∙ first_token in
         let first : h.first ≡ w = cc in
-        let front : take (length w) t ≡ w = (λ i. take (length (sym first i)) t) ∙ h.front ∙ first in
-        let g : true ≡ false = sym ((bytes_eq-Decides (take (length w) t) w).1 front) ∙ e in
+        let same : take (length w) t ≡ w = (λ i. take (length (sym first i)) t) ∙ h.prefix ∙ first in
+        let g : true ≡ false = sym ((bytes_eq-Decides (take (length w) t) w).1 same) ∙ e in
         cc

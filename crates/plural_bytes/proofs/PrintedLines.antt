@@ -63,14 +63,14 @@ begins_of [] ys h l = absurd (omega arith)
 begins_of (x ∷ xs) ys h l = record { first = x; rest = xs ++ ys; whole = refl; full = (plain_parts x (and_parts (is_token_byte x) (list_all is_token_byte xs) h).0).full }
 
 -- A text ends as its last part does.
-pub ends_behind : (front xs : List ℕ) → EndsInToken xs → EndsInToken (front ++ xs)
-ends_behind front xs e = record { init = front ++ e.init; last = e.last; whole = ap (λ t. front ++ t) e.whole ∙ sym (append_assoc front e.init (e.last ∷ [])); plain = e.plain }
+pub ends_after : (prefix xs : List ℕ) → EndsInToken xs → EndsInToken (prefix ++ xs)
+ends_after prefix xs e = record { init = prefix ++ e.init; last = e.last; whole = ap (λ t. prefix ++ t) e.whole ∙ sym (append_assoc prefix e.init (e.last ∷ [])); plain = e.plain }
 
 -- A token ends with no blank and no CR.
 pub ends_of : (xs : List ℕ) → list_all is_token_byte xs ≡ true → 0 < length xs → EndsInToken xs
 ends_of [] h l = absurd (omega arith)
 ends_of (x ∷ []) h l = record { init = []; last = x; whole = refl; plain = (and_parts (is_token_byte x) true h).0 }
-ends_of (x ∷ y ∷ ys) h l = ends_behind (x ∷ []) (y ∷ ys) (ends_of (y ∷ ys) (and_parts (is_token_byte x) (list_all is_token_byte (y ∷ ys)) h).1 (omega arith))
+ends_of (x ∷ y ∷ ys) h l = ends_after (x ∷ []) (y ∷ ys) (ends_of (y ∷ ys) (and_parts (is_token_byte x) (list_all is_token_byte (y ∷ ys)) h).1 (omega arith))
 
 -- ---- lines
 
@@ -94,7 +94,7 @@ pub line_more : (xs ys : List ℕ) → list_all is_token_byte xs ≡ true → 0 
 line_more xs ys h l inner ends = record {
   inner = list_all-append is_inner xs (32 ∷ ys) ∙ and_from _ _ (all_inner xs h) inner;
   begins = begins_of xs (32 ∷ ys) h l;
-  ends = ends_behind xs (32 ∷ ys) (ends_behind (32 ∷ []) ys ends);
+  ends = ends_after xs (32 ∷ ys) (ends_after (32 ∷ []) ys ends);
 }
 
 -- ---- the content of a line
@@ -113,8 +113,8 @@ no_comment : (text : List ℕ) → list_all is_inner text ≡ true → before_fi
 no_comment text h = before_none is_hash text (none_pass is_inner is_hash inner_no_hash text h)
 
 -- A text that begins with no blank is itself without its first blanks.
-pub no_front : (text : List ℕ) → Begins text → drop_while is_blank text ≡ text
-no_front text b = ap (drop_while is_blank) b.whole ∙ cond-false _ _ _ b.full ∙ sym b.whole
+pub no_first_blanks : (text : List ℕ) → Begins text → drop_while is_blank text ≡ text
+no_first_blanks text b = ap (drop_while is_blank) b.whole ∙ cond-false _ _ _ b.full ∙ sym b.whole
 
 no_back : (text : List ℕ) → EndsInToken text → drop_while is_blank (reverse text) ≡ reverse text
 no_back text e =
@@ -122,7 +122,7 @@ no_back text e =
     ap (drop_while is_blank) back ∙ cond-false _ _ _ (plain_parts e.last e.plain).full ∙ sym back
 
 no_blanks : (text : List ℕ) → Begins text → EndsInToken text → trimmed text ≡ text
-no_blanks text b e = ap (λ t. reverse (drop_while is_blank (reverse t))) (no_front text b) ∙ ap reverse (no_back text e) ∙ reverse-reverse text
+no_blanks text b e = ap (λ t. reverse (drop_while is_blank (reverse t))) (no_first_blanks text b) ∙ ap reverse (no_back text e) ∙ reverse-reverse text
 
 -- The content of a printed line is the line.
 pub content_is : (text : List ℕ) → IsLine text → content text ≡ text

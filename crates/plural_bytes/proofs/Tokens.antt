@@ -105,7 +105,7 @@ hex_token n = and_from _ _ refl (hex_plain 8 n)
 pub name_back : (name : List ℕ) → is_name name ≡ true → name_of name ≡ Some name
 name_back name h = rw h refl
 
--- A byte that passes where another fails is not that one.
+-- A byte that passes a test which another fails is not that one.
 apart : (p : ℕ → Bool) (c k : ℕ) → p k ≡ false → p c ≡ true → eqb c k ≡ false
 apart p c k f t = false_from_ne_true (eqb c k) (λ e. both_ways (p c) (ap p (eqb-true c k e) ∙ f) t)
 

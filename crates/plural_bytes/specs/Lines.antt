@@ -23,17 +23,17 @@ is_hash c = c == HASH
 abbrev pub is_blank : ℕ → Bool
 is_blank c = c == 32 || c == 9
 
--- The lines of a text are the pieces that it is cut into at each LF; a last piece without one counts where it isn't
+-- The lines of a text are the pieces that it is cut into at each LF; a last piece without one counts if it isn't
 -- empty.
 abbrev pub pieces : List ℕ → List (List ℕ)
 pieces [] = []
 pieces (c ∷ cs) = if is_line_end c then [] ∷ pieces cs else onto_first c (pieces cs)
 
--- A line without the CR at its end, where it has one.
+-- A line without the CR at its end, if it has one.
 abbrev pub without_cr : List ℕ → List ℕ
 without_cr piece = if slice_index piece (length piece - 1) == CR then take (length piece - 1) piece else piece
 
--- A list without those at its front that pass a test.
+-- A list without those before its first element that fails a test.
 abbrev pub drop_while : (ℕ → Bool) → List ℕ → List ℕ
 drop_while p [] = []
 drop_while p (c ∷ cs) = if p c then drop_while p cs else c ∷ cs

@@ -22,15 +22,15 @@ spelled base text = if are_digits base text then Some (value_of base text) else 
 abbrev pub numeral : List ℕ → Option ℕ
 numeral text = if starts_with nat_eq text (codes "0x") then spelled 16 (drop 2 text) else spelled 10 text
 
--- A number where it isn't above the limit.
+-- A number if it isn't above the limit.
 abbrev pub bounded : ℕ → ℕ → Option ℕ
 bounded limit n = if nat_le n limit then Some n else None
 
--- A number where it isn't above the limit, else the error of one that is.
+-- A number if it isn't above the limit, else the error of one that is.
 abbrev pub in_range : ℕ → ℕ → Result ℕ NumberError
 in_range limit n = if nat_le n limit then Ok n else Err Range
 
--- What reading answers: the number that is spelled where it isn't above the limit, or why there is none.
+-- What reading answers: the number that is spelled if it isn't above the limit, or why there is none.
 abbrev pub within : ℕ → Option ℕ → Result ℕ NumberError
 within limit None = Err Form
 within limit (Some n) = in_range limit n

@@ -1,4 +1,4 @@
--- What reads and writes do to the bytes that are left and held, where these are told.
+-- What reads and writes do to the bytes that are left and held, if these are told.
 use Rattle.std.specs.Prelude.{ℕ, ◌≡◌, ◌<◌, ◌≤◌, List, ◌++◌, length, take, Option, Result, MatchResult}
 use Rattle.std.specs.Io.KnownBytes.{Consumes, Keeps, Appends, IsAtEnd}
 

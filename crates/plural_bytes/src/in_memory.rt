@@ -12,6 +12,52 @@ use plural_base::Memory;
 use std::alloc::Global;
 use std::marker::Model;
 
+/// The calls of a source or a sink in memory: the numbers, from 0, of those that fail, and how many calls and failures
+/// there were.
+#[derive(Drop)]
+struct Calls {
+    fail: Vec<u32>,
+    calls: u64,
+    faults: u64,
+}
+
+/// Is this call one of those that fail?
+fn is_listed(fail: &[u32], call: u64) -> bool
+    ensures { result ≡ is_listed fail.now call }
+{
+    fail.iter().any(|c| u64::from(*c) == call)
+}
+
+impl Calls {
+    fn new(fail: Vec<u32>) -> Calls
+        ensures { result ≡ record { fail = fail; calls = 0; faults = 0 } }
+    {
+        Calls {
+            fail,
+            calls: 0,
+            faults: 0,
+        }
+    }
+
+    /// Counts a call that begins now, and answers whether it is one of those that fail.
+    fn begin(&mut self) -> bool
+        ensures fails { result ≡ is_listed self.old.fail.items self.old.calls }
+        ensures counted { self.new ≡ record self.old { calls = one_more self.old.calls } }
+    {
+        let call = self.calls;
+        self.calls = call.saturating_add(1);
+        is_listed(&self.fail, call)
+    }
+
+    /// Counts a failure.
+    fn failed(&mut self) -> Failed
+        ensures { self.new ≡ record self.old { faults = one_more self.old.faults } }
+    {
+        self.faults = self.faults.saturating_add(1);
+        Failed
+    }
+}
+
 /// A source over bytes in memory, which gives at most so many of them in a call and fails in the
 /// calls of given numbers, counted from 0.
 #[derive(Drop)]
@@ -19,9 +65,7 @@ pub struct MemSource {
     bytes: Vec<u8>,
     at: usize,
     piece: usize,
-    fail: Vec<u32>,
-    calls: u64,
-    faults: u64,
+    calls: Calls,
 }
 
 impl Model for MemSource {
@@ -33,12 +77,12 @@ impl Model for MemSource {
     ghost view = { λ s. record {
       left = drop s.at s.bytes.items;
       piece = s.piece;
-      fail = s.fail.items;
-      calls = s.calls;
-      faults = s.faults;
+      fail = s.calls.fail.items;
+      calls = s.calls.calls;
+      faults = s.calls.faults;
     } };
 
-    ghost invariant = { λ s. (s.at ≤ vec_len s.bytes) × (0 < s.piece) × (s.fail.items ≡ [] → s.faults ≡ 0) };
+    ghost invariant = { λ s. (s.at ≤ vec_len s.bytes) × (0 < s.piece) × (s.calls.fail.items ≡ [] → s.calls.faults ≡ 0) };
 }
 
 impl MemSource {
@@ -52,28 +96,9 @@ impl MemSource {
             bytes,
             at: 0,
             piece,
-            fail,
-            calls: 0,
-            faults: 0,
+            calls: Calls::new(fail),
         }
     }
-
-    /// The number of the call that begins now.
-    fn begin_call(&mut self) -> u64
-        ensures number { result ≡ self.old.calls }
-        ensures counted { self.new ≡ record self.old { calls = one_more self.old.calls } }
-    {
-        let call = self.calls;
-        self.calls = call.saturating_add(1);
-        call
-    }
-}
-
-/// Is this call one of those that fail?
-fn is_listed(fail: &[u32], call: u64) -> bool
-    ensures { result ≡ is_listed fail.now call }
-{
-    fail.iter().any(|c| u64::from(*c) == call)
 }
 
 /// Gives at most `piece` of the bytes from `at` on.
@@ -103,10 +128,8 @@ impl Source for MemSource {
         ensures kept { (self.new.piece ≡ self.old.piece) × (self.new.fail ≡ self.old.fail) }
         ensures never { self.new.fail ≡ [] → self.new.faults ≡ 0 }
     {
-        let call = self.begin_call();
-        if is_listed(&self.fail, call) {
-            self.faults = self.faults.saturating_add(1);
-            return Err(Failed);
+        if self.calls.begin() {
+            return Err(self.calls.failed());
         }
         let n = give(&self.bytes, self.at, self.piece, into);
         self.at += n;
@@ -121,9 +144,7 @@ pub struct MemSink {
     bytes: Vec<u8>,
     room: usize,
     piece: usize,
-    fail: Vec<u32>,
-    calls: u64,
-    faults: u64,
+    calls: Calls,
 }
 
 impl Model for MemSink {
@@ -136,9 +157,9 @@ impl Model for MemSink {
       holds = s.bytes.items;
       room = s.room;
       piece = s.piece;
-      fail = s.fail.items;
-      calls = s.calls;
-      faults = s.faults;
+      fail = s.calls.fail.items;
+      calls = s.calls.calls;
+      faults = s.calls.faults;
     } };
 
     ghost invariant = { λ s. (vec_len s.bytes ≤ s.room) × (s.room ≤ vec_capacity s.bytes) × (0 < s.piece) };
@@ -158,9 +179,7 @@ impl MemSink {
             bytes,
             room,
             piece,
-            fail,
-            calls: 0,
-            faults: 0,
+            calls: Calls::new(fail),
         })
     }
 
@@ -169,24 +188,6 @@ impl MemSink {
         ensures { result.now ≡ self.now.holds }
     {
         self.bytes.as_slice()
-    }
-
-    /// Counts a failure.
-    fn failed(&mut self) -> Failed
-        ensures { self.new ≡ record self.old { faults = one_more self.old.faults } }
-    {
-        self.faults = self.faults.saturating_add(1);
-        Failed
-    }
-
-    /// The number of the call that begins now.
-    fn begin_call(&mut self) -> u64
-        ensures number { result ≡ self.old.calls }
-        ensures counted { self.new ≡ record self.old { calls = one_more self.old.calls } }
-    {
-        let call = self.calls;
-        self.calls = call.saturating_add(1);
-        call
     }
 }
 
@@ -224,9 +225,8 @@ impl Sink for MemSink {
         ensures kept { (self.new.room ≡ self.old.room) × (self.new.piece ≡ self.old.piece)
             × (self.new.fail ≡ self.old.fail) }
     {
-        let call = self.begin_call();
-        if is_listed(&self.fail, call) || self.bytes.len() == self.room {
-            return Err(self.failed());
+        if self.calls.begin() || self.bytes.len() == self.room {
+            return Err(self.calls.failed());
         }
         Ok(take(&mut self.bytes, self.room, self.piece, from))
     }

@@ -156,7 +156,7 @@ pub fn line_count(text: &[u8]) -> u32
     match text {
         [] => 0,
         // Each LF before the last byte ends a line, and so does the last byte.
-        [front @ .., _] => memchr_iter(b'\n', front).count() as u32 + 1,
+        [before @ .., _] => memchr_iter(b'\n', before).count() as u32 + 1,
     }
 }
 

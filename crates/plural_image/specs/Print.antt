@@ -7,7 +7,7 @@ pub use Rattle.plural_bytes.specs.Hexadecimal.{hex_digit, hex_text}
 abbrev pub row_text : ℕ → List ℕ → List ℕ
 row_text a ws = (hex_text 8 a ++ 58 ∷ []) ++ flat_map (λ w. 32 ∷ hex_text 8 w) ws
 
--- The line of a row with its LF; nothing where its words are all 0.
+-- The line of a row with its LF; nothing if its words are all 0.
 abbrev pub row_lines : ℕ → List ℕ → List ℕ
 row_lines a ws = if list_all (λ w. w == 0) ws then [] else row_text a ws ++ 10 ∷ []
 

@@ -8,12 +8,12 @@ use Rattle.plural_sections.specs.Numbers.{word_token}
 abbrev pub address_token : List ℕ → Option ℕ
 address_token t = if length t == 9 && slice_index t 8 == 58 then word_token (take 8 t) else None
 
--- The words of tokens, where each is one.
+-- The words of tokens, if each is one.
 abbrev pub all_words : List (List ℕ) → Option (List ℕ)
 all_words [] = Some []
 all_words (t ∷ ts) = option_and_then (λ w. option_map (λ ws. w ∷ ws) (all_words ts)) (word_token t)
 
--- The words of one to eight tokens, where each is one.
+-- The words of one to eight tokens, if each is one.
 abbrev pub one_to_eight : List (List ℕ) → Option (List ℕ)
 one_to_eight ts = if nat_lt 0 (length ts) && nat_le (length ts) 8 then all_words ts else None
 

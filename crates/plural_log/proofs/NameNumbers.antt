@@ -54,7 +54,7 @@ noted_at old new name q t e none = e ∙ rw (is_eq-slice_cmp name q) (by old (by
     by (Some p) true n = absurd (let f : true ≡ false = n refl in cc)
     by (Some p) false n = refl
 
--- A name is no task's where its number is the number of tasks.
+-- A name is no task's if its number is the number of tasks.
 pub misnamed_by : (ts : List TaskValue) (name : List ℕ) → eqb (number_of name ts) (length ts) ≡ not (has_task ts name)
 misnamed_by [] name = refl
 misnamed_by (t ∷ ts) name = by (bytes_eq t.name name) (misnamed_by ts name)

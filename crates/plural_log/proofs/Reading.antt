@@ -1,11 +1,10 @@
 -- Reading log lines one after the other.
 use Rattle.std.proofs.Common.{◌≡◌, ℕ, ◌+◌, ◌-◌, ◌<◌, ◌≤◌, Bool, true, false, leb, Some, None, Option, List, [], ◌∷◌, ◌++◌, length, take, get_or, refl, ap, sym, subst, ◌∙◌, arith}
-use Rattle.std.specs.Prelude.{bytes_eq, MatchOption, ⊤}
+use Rattle.std.specs.Prelude.{MatchOption, ⊤}
 use Rattle.std.specs.List.{All}
 use Rattle.std.proofs.lemmas.Bool.{not-false, and_parts, eqb-true, leb-true, leb-false, lt-ltb, false_from_ne_true, both_ways}
 use Rattle.std.proofs.lemmas.List.Elements.{All-push}
 use Rattle.std.proofs.lemmas.List.{map_more, length-map, length_push, take_all}
-use Rattle.plural_map.specs.Lookup.{number_of, has_task}
 use Rattle.plural_bytes.specs.Lines.{TextLine}
 use Rattle.plural_bytes.specs.declared.lines.Line.{Line}
 use Rattle.plural_bytes.specs.Spelled.{text_line, text_lines}
@@ -13,6 +12,7 @@ use Rattle.plural_sections.specs.Faults.{IsFaultless, IsFirstFault, closed}
 use Rattle.plural_sections.specs.LineKinds.{HasNone, IsLeast, BreaksBy}
 use Rattle.plural_sections.proofs.FirstFaults.{length_before}
 use Rattle.plural_sections.proofs.ReadLines as reading
+use Rattle.plural_map_text.proofs.TaskLimits.{number_below}
 use Rattle.plural_map.specs.Value.{TaskValue}
 use Rattle.plural_trace.specs.declared.entry.Entry.{Entry}
 use Rattle.plural_log.specs.declared.line.LogLine.{LogLine}
@@ -61,18 +61,6 @@ pub record IsCounted (tasks n : ℕ) (log : LogValue) : Type 0 where
   pub few : length log.entries ≤ 65536
   pub known : All (λ (e : Entry). e.rec.t < tasks) log.entries
 
--- If some task has the name, its number is that of a task.
-number_below : (tasks : List TaskValue) (name : List ℕ) → has_task tasks name ≡ true → number_of name tasks < length tasks
-number_below [] name h = absurd cc
-number_below (t ∷ ts) name h = by_first (bytes_eq t.name name) (number_below ts name) refl
-  where
-    by_first : (b : Bool) → (has_task ts name ≡ true → number_of name ts < length ts) → bytes_eq t.name name ≡ b → number_of name (t ∷ ts) < length (t ∷ ts)
-    by_first true rest e = rw e (omega arith)
-    by_first false rest e =
-        let later : has_task ts name ≡ true = rw e at h in
-        let below = rest later in
-        rw e (omega (arith, below))
-
 counted_more : (tasks : List TaskValue) (n : ℕ) (log : LogValue) (s : LogLine) → is_out_of_place (length tasks) n s ≡ false → is_misnamed tasks n s ≡ false → is_too_many (length log.entries) s ≡ false
     → IsCounted (length tasks) n log → IsCounted (length tasks) (n + 1) (with_line tasks log s)
 counted_more tasks n log (line.First cores) p m t c =
@@ -86,7 +74,7 @@ counted_more tasks n log (line.Task name outcome) p m t c =
 counted_more tasks n log (line.Run name k e cs ts) p m t c =
     let high : length tasks < n = leb-false _ _ p in
     let room : length log.entries < 65536 = leb-false _ _ t in
-    let below = number_below tasks name (not-false _ m) in
+    let below = number_below name tasks (not-false _ m) in
     record {
       outcomes = let o = c.outcomes in omega arith;
       few = omega (arith, length_push log.entries (entry_value tasks name k e cs ts));

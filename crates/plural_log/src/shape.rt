@@ -1,7 +1,7 @@
 //! A log line by its tokens.
-ghost use Rattle.std.specs.Prelude.{◌≡◌, ℕ, true, List, Some, None, MatchOption, codes, [], ◌∷◌};
+ghost use Rattle.std.specs.Prelude.{◌≡◌, ◌≤◌, ℕ, true, List, Some, None, MatchOption, codes, [], ◌∷◌, length};
 ghost use Rattle.plural_bytes.specs.Lines.{tokens};
-ghost use Rattle.plural_bytes.specs.Words.{is_one_word};
+ghost use Rattle.plural_bytes.specs.Words.{is_one_word, spaced, inner};
 ghost use Rattle.plural_log.specs.Shape.{first_line, outcome_of, task_line, field, counts_of, times_of, trap_of, code_of, end_of, run_line, shape_of};
 
 use crate::line::{Counts, EndShape, LogLine, Times};
@@ -76,8 +76,8 @@ fn task_line(text: &[u8]) -> Option<LogLine>
 }
 
 /// What stands after a word that is a text's first token.
-#[inline(always)]
-fn after_word<'a>(text: &'a [u8], word: &[u8]) -> Option<&'a [u8]>
+#[inline(never)]
+fn after_token<'a>(text: &'a [u8], word: &[u8]) -> Option<&'a [u8]>
     requires { is_one_word word.now ≡ true }
     ensures { MatchOption result ((ts : List (List ℕ)) → tokens text.now ≡ word.now ∷ ts → ⊥)
         (λ r. tokens text.now ≡ word.now ∷ tokens r.now) }
@@ -86,14 +86,31 @@ fn after_word<'a>(text: &'a [u8], word: &[u8]) -> Option<&'a [u8]>
     if ends_token(rest) { Some(rest) } else { None }
 }
 
-/// The number after a word, and what stands after that.
+/// What stands after a word that is a text's first token, given as it is printed: with a space before and after it.
 #[inline(always)]
-fn field<'a>(text: &'a [u8], word: &[u8]) -> Option<(u64, &'a [u8])>
-    requires { is_one_word word.now ≡ true }
-    ensures { MatchOption result (field word.now (tokens text.now) ≡ None)
-        (λ r. field word.now (tokens text.now) ≡ Some (r.0, tokens r.1.now)) }
+fn after_word<'a>(text: &'a [u8], printed: &[u8]) -> Option<&'a [u8]>
+    requires printed { printed.now ≡ spaced (inner printed.now) }
+    requires word { is_one_word (inner printed.now) ≡ true }
+    requires long { 2 ≤ length printed.now }
+    ensures { MatchOption result ((ts : List (List ℕ)) → tokens text.now ≡ inner printed.now ∷ ts → ⊥)
+        (λ r. tokens text.now ≡ inner printed.now ∷ tokens r.now) }
 {
-    let rest = after_word(text, word)?;
+    match text.strip_prefix(printed) {
+        Some(rest) => Some(rest),
+        None => after_token(text, &printed[1..printed.len() - 1]),
+    }
+}
+
+/// The number after a word, which is given as it is printed, and what stands after that.
+#[inline(always)]
+fn field<'a>(text: &'a [u8], printed: &[u8]) -> Option<(u64, &'a [u8])>
+    requires printed { printed.now ≡ spaced (inner printed.now) }
+    requires word { is_one_word (inner printed.now) ≡ true }
+    requires long { 2 ≤ length printed.now }
+    ensures { MatchOption result (field (inner printed.now) (tokens text.now) ≡ None)
+        (λ r. field (inner printed.now) (tokens text.now) ≡ Some (r.0, tokens r.1.now)) }
+{
+    let rest = after_word(text, printed)?;
     next_numeral(rest)
 }
 
@@ -101,10 +118,10 @@ fn counts_of(text: &[u8]) -> Option<(Counts, &[u8])>
     ensures { MatchOption result (counts_of (tokens text.now) ≡ None)
         (λ r. counts_of (tokens text.now) ≡ Some (r.0, tokens r.1.now)) }
 {
-    let (instructions, rest) = field(text, b"n")?;
-    let (loads, rest) = field(rest, b"loads")?;
-    let (misses, rest) = field(rest, b"misses")?;
-    let (stores, rest) = field(rest, b"stores")?;
+    let (instructions, rest) = field(text, b" n ")?;
+    let (loads, rest) = field(rest, b" loads ")?;
+    let (misses, rest) = field(rest, b" misses ")?;
+    let (stores, rest) = field(rest, b" stores ")?;
     let counts = Counts {
         instructions,
         loads,
@@ -117,9 +134,9 @@ fn counts_of(text: &[u8]) -> Option<(Counts, &[u8])>
 fn times_of(text: &[u8]) -> Option<Times>
     ensures { result ≡ times_of (tokens text.now) }
 {
-    let (core, rest) = field(text, b"core")?;
-    let (start, rest) = field(rest, b"from")?;
-    let (end_at, rest) = field(rest, b"to")?;
+    let (core, rest) = field(text, b" core ")?;
+    let (start, rest) = field(rest, b" from ")?;
+    let (end_at, rest) = field(rest, b" to ")?;
     if next_token(rest).is_some() {
         return None;
     }
@@ -163,16 +180,17 @@ fn end_of(text: &[u8]) -> Option<(EndShape, &[u8])>
     ensures { MatchOption result (end_of (tokens text.now) ≡ None)
         (λ r. end_of (tokens text.now) ≡ Some (r.0, tokens r.1.now)) }
 {
-    if let Some(rest) = after_word(text, b"code") {
+    if let Some(rest) = after_word(text, b" code ") {
         return code_of(rest);
     }
-    if let Some(rest) = after_word(text, b"trap") {
+    if let Some(rest) = after_word(text, b" trap ") {
         return trap_of(rest);
     }
-    let rest = after_word(text, b"spent")?;
+    let rest = after_word(text, b" spent ")?;
     Some((EndShape::Spent, rest))
 }
 
+#[inline(never)]
 fn run_line(text: &[u8]) -> Option<LogLine>
     ensures { result ≡ run_line (tokens text.now) }
 {

@@ -40,18 +40,22 @@ pub record IsShape (sets ways : ℕ) : Type 0 where
   pub low : 1 ≤ ways
   pub high : ways ≤ 4
 
+-- The tasks before the current one, and the current one, are within all limits.
+pub record HasTasks (words : ℕ) (ts : List TaskValue) (o : Option TaskValue) : Type 0 where
+  pub few : length ts + option_map_or (λ t. 1) o 0 ≤ 64
+  pub quotas : sum (map (λ t. t.quota) ts) + option_map_or (λ t. t.quota) o 0 ≤ 65536
+  pub names : AllPairs (λ t u. t.name ≢ u.name) ts
+  pub new_name : MatchOption o ⊤ (λ t. All (λ e. e.name ≢ t.name) ts)
+  pub earlier : (i : ℕ) (d : TaskValue) → i < length ts → IsDeclared words i (get_or ts i d)
+  pub current : MatchOption o ⊤ (IsDeclared words (length ts))
+
 -- What holds of the parts that n lines without a fault spell.
 pub record IsKept (n : ℕ) (p : Parts) : Type 0 where
   pub words : 1 ≤ n → IsWords p.words
   pub shape : 2 ≤ n → IsShape p.sets p.ways
   pub no_earlier : n < 2 → p.earlier ≡ []
   pub no_current : n < 2 → p.current ≡ None
-  pub few : task_count p ≤ 64
-  pub quotas : instance_count p ≤ 65536
-  pub names : AllPairs (λ t u. t.name ≢ u.name) p.earlier
-  pub new_name : MatchOption p.current ⊤ (λ t. All (λ e. e.name ≢ t.name) p.earlier)
-  pub earlier : (i : ℕ) (d : TaskValue) → i < length p.earlier → IsDeclared p.words i (get_or p.earlier i d)
-  pub current : MatchOption p.current ⊤ (IsDeclared p.words (length p.earlier))
+  pub tasks : HasTasks p.words p.earlier p.current
 
 -- No lines spell no parts, within all limits.
 pub kept_nothing : IsKept 0 nothing
@@ -60,12 +64,14 @@ kept_nothing = record {
   shape = λ h. absurd (omega arith);
   no_earlier = λ h. refl;
   no_current = λ h. refl;
-  few = omega arith;
-  quotas = omega arith;
-  names = λ i j d l h. absurd (omega arith);
-  new_name = tt;
-  earlier = λ i d h. absurd (omega arith);
-  current = tt;
+  tasks = record {
+    few = omega arith;
+    quotas = omega arith;
+    names = λ i j d l h. absurd (omega arith);
+    new_name = tt;
+    earlier = λ i d h. absurd (omega arith);
+    current = tt;
+  };
 }
 
 -- ---- line by line
@@ -85,12 +91,14 @@ kept_memory n p w k place range =
       shape = λ h. absurd (omega arith);
       no_earlier = λ h. none;
       no_current = λ h. k.no_current (omega arith);
-      few = k.few;
-      quotas = k.quotas;
-      names = k.names;
-      new_name = k.new_name;
-      earlier = λ i d h. absurd (omega arith);
-      current = rw (k.no_current (omega arith)) tt;
+      tasks = record {
+        few = k.tasks.few;
+        quotas = k.tasks.quotas;
+        names = k.tasks.names;
+        new_name = k.tasks.new_name;
+        earlier = λ i d h. absurd (omega arith);
+        current = rw (k.no_current (omega arith)) tt;
+      };
     }
 
 kept_cache : (n : ℕ) (p : Parts) (s w : ℕ) → IsKept n p → is_out_of_place n p (line.Cache s w) ≡ false → is_out_of_range (line.Cache s w) ≡ false → IsKept (n + 1) (with_line p (line.Cache s w))
@@ -103,12 +111,7 @@ kept_cache n p s w k place range =
       shape = λ h. record { known = (and_parts (is_set_count s) (is_within 1 4 w) t).0; low = b.0; high = b.1 };
       no_earlier = λ h. absurd (omega arith);
       no_current = λ h. absurd (omega arith);
-      few = k.few;
-      quotas = k.quotas;
-      names = k.names;
-      new_name = k.new_name;
-      earlier = k.earlier;
-      current = k.current;
+      tasks = k.tasks;
     }
 
 -- A regular task has one instance.
@@ -130,22 +133,20 @@ kept_task labels n p name tk entry budget k place range misnamed many =
       shape = λ h. k.shape (omega arith);
       no_earlier = λ h. absurd (omega arith);
       no_current = λ h. absurd (omega arith);
-      few = omega (arith, length_all p.earlier p.current, leb-false 64 (task_count p) (or_parts (nat_le 64 (task_count p)) (nat_lt 65536 (instance_count p + quota_of tk)) many).0);
-      quotas = omega (arith, quotas_all p.earlier p.current, ltb-false 65536 (instance_count p + quota_of tk) (or_parts (nat_le 64 (task_count p)) (nat_lt 65536 (instance_count p + quota_of tk)) many).1);
-      names = names_all p.earlier p.current k.names k.new_name;
-      new_name = new_name_all name p.earlier p.current (or_parts (has_task p.earlier name) here new).0 (or_parts (has_task p.earlier name) here new).1;
-      earlier = declared_all p.words p.earlier p.current k.earlier k.current;
-      current = record {
-        quota_low = q.0;
-        quota_high = q.1;
-        regular = regular_one tk;
-        budget_low = b.0;
-        budget_high = b.1;
-        few_deps = omega arith;
-        before = λ i d h. absurd (omega arith);
-        deps_differ = λ i j d l h. absurd (omega arith);
-        few_regions = omega arith;
-        inside = λ i a h m. absurd (both_ways false refl m);
+      tasks = record {
+        few = omega (arith, length_all p.earlier p.current, leb-false 64 (task_count p) (or_parts (nat_le 64 (task_count p)) (nat_lt 65536 (instance_count p + quota_of tk)) many).0);
+        quotas = omega (arith, quotas_all p.earlier p.current, ltb-false 65536 (instance_count p + quota_of tk) (or_parts (nat_le 64 (task_count p)) (nat_lt 65536 (instance_count p + quota_of tk)) many).1);
+        names = names_all p.earlier p.current k.tasks.names k.tasks.new_name;
+        new_name = new_name_all name p.earlier p.current (or_parts (has_task p.earlier name) here new).0 (or_parts (has_task p.earlier name) here new).1;
+        earlier = declared_all p.words p.earlier p.current k.tasks.earlier k.tasks.current;
+        current = record {
+          numbers = record { quota_low = q.0; quota_high = q.1; regular = regular_one tk; budget_low = b.0; budget_high = b.1 };
+          few_deps = omega arith;
+          before = λ i d h. absurd (omega arith);
+          deps_differ = λ i j d l h. absurd (omega arith);
+          few_regions = omega arith;
+          inside = λ i a h m. absurd (both_ways false refl m);
+        };
       };
     }
 
@@ -157,12 +158,14 @@ kept_current n p more name quota k low current = record {
   shape = λ h. k.shape (omega arith);
   no_earlier = λ h. absurd (omega arith);
   no_current = λ h. absurd (omega arith);
-  few = subst (λ (c : ℕ). length p.earlier + c ≤ 64) (same_one p.current) k.few;
-  quotas = subst (λ (c : ℕ). sum (map (λ (t : TaskValue). t.quota) p.earlier) + c ≤ 65536) (same_quota p.current) k.quotas;
-  names = k.names;
-  new_name = same_name p.current k.new_name;
-  earlier = k.earlier;
-  current = current;
+  tasks = record {
+    few = subst (λ (c : ℕ). length p.earlier + c ≤ 64) (same_one p.current) k.tasks.few;
+    quotas = subst (λ (c : ℕ). sum (map (λ (t : TaskValue). t.quota) p.earlier) + c ≤ 65536) (same_quota p.current) k.tasks.quotas;
+    names = k.tasks.names;
+    new_name = same_name p.current k.tasks.new_name;
+    earlier = k.tasks.earlier;
+    current = current;
+  };
 }
   where
     same_one : (o : Option TaskValue) → option_map_or one o 0 ≡ option_map_or one (option_map more o) 0
@@ -184,7 +187,7 @@ kept_after labels n p name when k place misnamed many =
     let number = number_of name p.earlier in
     let named : has_task p.earlier name ≡ true = not-false (has_task p.earlier name) (or_parts (not (has_task p.earlier name)) (option_map_or (has_dep number) p.current false) misnamed).0 in
     let new = (or_parts (not (has_task p.earlier name)) (option_map_or (has_dep number) p.current false) misnamed).1 in
-    kept_current n p (with_dep (record { task = number; when = when })) (λ t. refl) (λ t. refl) k low (more p.current k.current new many (number_below name p.earlier named))
+    kept_current n p (with_dep (record { task = number; when = when })) (λ t. refl) (λ t. refl) k low (more p.current k.tasks.current new many (number_below name p.earlier named))
   where
     more : (o : Option TaskValue) → MatchOption o ⊤ (IsDeclared p.words (length p.earlier)) → option_map_or (has_dep (number_of name p.earlier)) o false ≡ false → option_map_or (λ (t : TaskValue). nat_le 16 (length t.deps)) o false ≡ false
         → number_of name p.earlier < length p.earlier → MatchOption (option_map (with_dep (record { task = number_of name p.earlier; when = when })) o) ⊤ (IsDeclared p.words (length p.earlier))
@@ -195,7 +198,7 @@ kept_region : (n : ℕ) (p : Parts) (mode : Mode) (base stride count : ℕ) → 
     → IsInsideAt p (line.Region mode base stride count) → IsKept (n + 1) (with_line p (line.Region mode base stride count))
 kept_region n p mode base stride count k place many inside =
     let low : 2 ≤ n = ltb-false n 2 (or_parts (nat_lt n 2) (is_none p.current) place).0 in
-    kept_current n p (with_region region) (λ t. refl) (λ t. refl) k low (more p.current k.current many inside)
+    kept_current n p (with_region region) (λ t. refl) (λ t. refl) k low (more p.current k.tasks.current many inside)
   where
     region : Region
     region = region_of mode base stride count
@@ -212,12 +215,7 @@ kept_blank n p k low = record {
   shape = λ h. k.shape (omega arith);
   no_earlier = λ h. absurd (omega arith);
   no_current = λ h. absurd (omega arith);
-  few = k.few;
-  quotas = k.quotas;
-  names = k.names;
-  new_name = k.new_name;
-  earlier = k.earlier;
-  current = k.current;
+  tasks = k.tasks;
 }
 
 -- One more line without a fault keeps the limits.
@@ -233,7 +231,7 @@ kept_more labels n p (line.Region mode base stride count) k a b c d i = kept_reg
 
 -- The tasks of kept parts depend on tasks of lesser numbers alone.
 pub kept_in_order : (n : ℕ) (p : Parts) → IsKept n p → IsDeclaredInOrder (tasks_of p)
-kept_in_order n p k t d h = (declared_all p.words p.earlier p.current k.earlier k.current t d h).before
+kept_in_order n p k t d h = (declared_all p.words p.earlier p.current k.tasks.earlier k.tasks.current t d h).before
 
 -- The map of a whole section is within all limits.
 pub kept_map : (n : ℕ) (p : Parts) → IsKept n p → 2 ≤ n → IsMap (whole p)
@@ -247,10 +245,10 @@ kept_map n p k h =
       sets = s.known;
       ways_low = s.low;
       ways_high = s.high;
-      few_tasks = omega (arith, length_all p.earlier p.current, k.few);
-      few_instances = omega (arith, quotas_all p.earlier p.current, k.quotas);
-      names_differ = names_all p.earlier p.current k.names k.new_name;
-      each = λ i d l. task_from_declared p.words i (tasks_of p) (get_or (tasks_of p) i d) l (declared_all p.words p.earlier p.current k.earlier k.current i d l);
+      few_tasks = omega (arith, length_all p.earlier p.current, k.tasks.few);
+      few_instances = omega (arith, quotas_all p.earlier p.current, k.tasks.quotas);
+      names_differ = names_all p.earlier p.current k.tasks.names k.tasks.new_name;
+      each = λ i d l. task_from_declared p.words i (tasks_of p) (get_or (tasks_of p) i d) l (declared_all p.words p.earlier p.current k.tasks.earlier k.tasks.current i d l);
       ordered = refl;
       reaches = λ t l. rw (declared_order (tasks_of p) (kept_in_order n p k)) (among_range 0 (length (tasks_of p)) t (omega arith) (omega arith));
     }

@@ -48,13 +48,17 @@ number_below name (t ∷ ts) e = by_first (bytes_eq t.name name) refl (number_be
 
 -- ---- one task
 
+-- The numbers of a task's line are in their ranges.
+pub record HasNumbers (dup : Bool) (quota budget : ℕ) : Type 0 where
+  pub quota_low : 1 ≤ quota
+  pub quota_high : quota ≤ 16384
+  pub regular : dup ≡ false → quota ≡ 1
+  pub budget_low : 1 ≤ budget
+  pub budget_high : budget ≤ 100000000
+
 -- The i-th task of a map is within all limits of a task and depends on tasks before it alone.
 pub record IsDeclared (words i : ℕ) (t : TaskValue) : Type 0 where
-  pub quota_low : 1 ≤ t.quota
-  pub quota_high : t.quota ≤ 16384
-  pub regular : t.dup ≡ false → t.quota ≡ 1
-  pub budget_low : 1 ≤ t.budget
-  pub budget_high : t.budget ≤ 100000000
+  pub numbers : HasNumbers t.dup t.quota t.budget
   pub few_deps : length t.deps ≤ 16
   pub before : All (λ d. d.task < i) t.deps
   pub deps_differ : AllPairs (λ d e. d.task ≢ e.task) t.deps
@@ -64,11 +68,11 @@ pub record IsDeclared (words i : ℕ) (t : TaskValue) : Type 0 where
 -- It is a task of the map.
 pub task_from_declared : (words i : ℕ) (tasks : List TaskValue) (t : TaskValue) → i < length tasks → IsDeclared words i t → IsTask words tasks t
 task_from_declared words i tasks t h d = record {
-  quota_low = d.quota_low;
-  quota_high = d.quota_high;
-  regular = d.regular;
-  budget_low = d.budget_low;
-  budget_high = d.budget_high;
+  quota_low = d.numbers.quota_low;
+  quota_high = d.numbers.quota_high;
+  regular = d.numbers.regular;
+  budget_low = d.numbers.budget_low;
+  budget_high = d.numbers.budget_high;
   few_deps = d.few_deps;
   deps_within = All-weaker (λ (p : Dep). p.task < i) (λ (p : Dep). p.task < length tasks) (λ p l. omega arith) t.deps d.before;
   deps_differ = d.deps_differ;
@@ -80,11 +84,7 @@ task_from_declared words i tasks t h d = record {
 pub dep_added : (words i : ℕ) (t : TaskValue) (number : ℕ) (when : When) → IsDeclared words i t → number < i → has_dep number t ≡ false → nat_le 16 (length t.deps) ≡ false
     → IsDeclared words i (with_dep (record { task = number; when = when }) t)
 dep_added words i t number when d l new room = record {
-  quota_low = d.quota_low;
-  quota_high = d.quota_high;
-  regular = d.regular;
-  budget_low = d.budget_low;
-  budget_high = d.budget_high;
+  numbers = d.numbers;
   few_deps = omega (arith, length_push t.deps dep, leb-false 16 (length t.deps) room);
   before = All-push (λ (p : Dep). p.task < i) t.deps dep d.before l;
   deps_differ = all_pairs_push (λ (d e : Dep). d.task ≢ e.task) t.deps dep d.deps_differ (λ k x h. eqb-false (get_or t.deps k x).task number (none_from_any (λ (p : Dep). p.task == number) t.deps new k x h));
@@ -106,11 +106,7 @@ read_more rs r k a words old new m = by_old (may_read rs k a) refl (sym (list_an
 -- One more region inside the memory keeps it so.
 pub region_added : (words i : ℕ) (t : TaskValue) (r : Region) → IsDeclared words i t → AllInside r t.quota words → nat_le 8 (length t.regions) ≡ false → IsDeclared words i (with_region r t)
 region_added words i t r d inside room = record {
-  quota_low = d.quota_low;
-  quota_high = d.quota_high;
-  regular = d.regular;
-  budget_low = d.budget_low;
-  budget_high = d.budget_high;
+  numbers = d.numbers;
   few_deps = d.few_deps;
   before = d.before;
   deps_differ = d.deps_differ;

@@ -166,12 +166,12 @@ whole_fits labels n p f low =
     let written = all_written labels p.earlier p.current f.earlier f.current in
     record {
       words = (f.kept.words (omega arith)).high;
-      few_tasks = omega (arith, length_all p.earlier p.current, f.kept.few);
+      few_tasks = omega (arith, length_all p.earlier p.current, f.kept.tasks.few);
       each = λ i d l. record {
         name = (written i d l).name;
         entry = (written i d l).entry;
         every = (written i d l).every;
-        earlier = (declared_all p.words p.earlier p.current f.kept.earlier f.kept.current i d l).before;
+        earlier = (declared_all p.words p.earlier p.current f.kept.tasks.earlier f.kept.tasks.current i d l).before;
         regions = (written i d l).regions;
       };
     }

@@ -1,4 +1,4 @@
--- A section's first fault is that of the whole, where the lines before the section have none.
+-- A section's first fault is that of the whole, if the lines before the section have none.
 use Rattle.std.proofs.Common.{◌≡◌, ℕ, List, [], ◌∷◌, ◌++◌, refl, ap, sym, ◌∙◌, append_assoc, ◌⊎◌, inl, inr}
 use Rattle.plural_bytes.specs.Lines.{TextLine}
 use Rattle.plural_sections.specs.Faults.{IsFaultless, IsFirstFault}

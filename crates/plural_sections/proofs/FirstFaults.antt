@@ -50,7 +50,7 @@ first_before rank B lines more number kind f = record {
   least = f.least;
 }
 
--- Lines and one more have no fault where neither has.
+-- Lines and one more have no fault if neither has.
 pub last_none : {K : Type 0} (B : List TextLine → List ℕ → K → Type 0) (lines : List TextLine) (last : TextLine) → IsFaultless B (lines ++ last ∷ []) → IsFaultless B lines × ((k : K) → B lines last.1 k → ⊥)
 last_none B lines last f = (
   record {

@@ -1,4 +1,4 @@
--- The section of a header, where lines before it aren't that header.
+-- The section of a header, if no line before it is that header.
 use Rattle.std.proofs.Common.{◌≡◌, ℕ, true, false, List, [], ◌∷◌, ◌++◌, refl, ap, sym, ◌∙◌, append_assoc, ◌⊎◌, inl, inr, Bool}
 use Rattle.std.specs.Prelude.{bytes_eq}
 use Rattle.std.specs.List.{AllByRecursion, after_first}

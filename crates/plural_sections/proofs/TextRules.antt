@@ -56,7 +56,7 @@ in_staying b X Y e = ap (λ t. InSection t X Y) e
 pub no_header : (due : List ℕ) (f : Fault) → bytes_eq due due ≡ true → IsNot due due f → ⊥
 no_header due f e h = let g : true ≡ false = sym e ∙ h.1 in absurd cc
 
--- The n-th section of a text, of which nothing has to hold where it is closed.
+-- The n-th section of a text, of which nothing has to hold when it is closed.
 abbrev pub part_rule : {K : Type 0} (t : TextRule) (n : ℕ) (Part : LineRule K) (of : K → Fault) (part_rank : K → ℕ) (due : List ℕ)
     → ((kind : K) → rank (of kind) ≡ part_rank kind) → closes due ≡ true → bytes_eq due due ≡ true
     → ((before : List TextLine) (text : List ℕ) (f : Fault) → t.Sections n before text f ≡ PartBreaks of due Part before text f) → SectionRule K t n
@@ -74,7 +74,7 @@ part_rule t n Part of part_rank due ranks close own same = record {
   whole = λ before none. tt;
 }
 
--- The n-th section of a text, which has to be whole where it is closed.
+-- The n-th section of a text, which has to be whole when it is closed.
 abbrev pub whole_part_rule : {K : Type 0} (t : TextRule) (n : ℕ) (Part : LineRule K) (of : K → Fault) (part_rank : K → ℕ) (due : List ℕ)
     → ((kind : K) → rank (of kind) ≡ part_rank kind) → closes due ≡ true → bytes_eq due due ≡ true
     → ((before : List TextLine) (text : List ℕ) (f : Fault) → t.Sections n before text f ≡ WholePartBreaks of due Part before text f) → SectionRule K t n

@@ -48,6 +48,8 @@ fn leading_digits(text: &[u8]) -> Digits
 }
 
 /// The same as `next_numeral`, for any token.
+#[cold]
+#[inline(never)]
 fn token_numeral(text: &[u8]) -> Option<(u64, &[u8])>
     ensures { MatchOption result (first_numeral (tokens text.now) ≡ None)
         (λ r. first_numeral (tokens text.now) ≡ Some (r.0, tokens r.1.now)) }

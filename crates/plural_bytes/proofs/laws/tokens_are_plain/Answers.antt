@@ -1,6 +1,6 @@
 use Rattle.plural_bytes.proofs.PlainBytes.{tokens_are_plain}
 use Rattle.plural_bytes.proofs.laws.tokens_are_plain.Goals as goal
 
--- The answer meets the contract.
+-- Tokens have plain bytes alone.
 pub returns : goal.returns
 returns c = tokens_are_plain

@@ -25,7 +25,7 @@ lines_counted (suc n) (c ∷ cs) e = by (is_line_end c) refl (lines_counted n cs
     by true t i = rw (sum_by-cons (λ x. cond (is_line_end x) 1 0) c (take n cs), t) (omega (arith, i))
     by false t i = rw (sum_by-cons (λ x. cond (is_line_end x) 1 0) c (take n cs), t) (omega (arith, i, onto_counted c (pieces cs) (omega (arith, i))))
 
--- The answer at `in-len1-up` meets the contract.
+-- The lines are one more than the line ends before the last byte.
 pub returns-in-len1-up : goal.returns-in-len1-up
 returns-in-len1-up c =
     let text = c.args.text.now in

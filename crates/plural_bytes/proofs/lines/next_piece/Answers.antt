@@ -3,11 +3,11 @@ use Rattle.std.proofs.lemmas.List.{take_rest, drop_all}
 use Rattle.plural_bytes.proofs.Cuts.{pieces_at, pieces_rest}
 use Rattle.plural_bytes.proofs.lines.next_piece.Goals as goal
 
--- The answer at `in-Some` meets the clause `pieces`.
+-- The first line ends at the first LF.
 pub returns-in-Some-clause-pieces : goal.returns-in-Some-clause-pieces
 returns-in-Some-clause-pieces c = rw (take_rest c.args.text.now (c.in-Some.i + 1)) (pieces_at c.args.text.now c.in-Some.i (sym c.find_line_end.ensures ∙ c.in-Some.is))
 
--- The answer at `in-None` meets the clause `pieces`.
+-- A text without LF is one line.
 pub returns-in-None-clause-pieces : goal.returns-in-None-clause-pieces
 returns-in-None-clause-pieces c =
     let none : length c.args.text.now ≤ length c.args.text.now = omega arith in

@@ -6,20 +6,20 @@ use Rattle.plural_base.proofs.ListTests.{found}
 use Rattle.plural_bytes.proofs.Cuts.{tokens_at, tokens_whole, tokens_trimmed, begins, drop_while_shorter, Begins}
 use Rattle.plural_bytes.proofs.lines.next_token.Goals as goal
 
--- The answer at `then-is_empty` meets the clause `tokens`.
+-- Blanks alone have no token.
 pub returns-then-is_empty-clause-tokens : goal.returns-then-is_empty-clause-tokens
 returns-then-is_empty-clause-tokens c =
     let none = nil_from_length c.trim_start-rest.result.now (eqb-true _ _ (sym c.is_empty.ensures ∙ c.if-is_empty.true)) in
     sym (tokens_trimmed c.args.text.now) ∙ ap tokens (sym c.trim_start-rest.ensures ∙ none)
 
--- The answer at `in-Some` meets the clause `tokens`.
+-- The first token ends at the first blank.
 pub returns-in-Some-clause-tokens : goal.returns-in-Some-clause-tokens
 returns-in-Some-clause-tokens c =
     let rest = c.trim_start-rest.result.now in
     let b : Begins rest = rw c.trim_start-rest.ensures (begins c.args.text.now) in
     rw (take_rest rest (c.in-Some.i + 1)) (sym (tokens_trimmed c.args.text.now) ∙ ap tokens (sym c.trim_start-rest.ensures) ∙ tokens_at rest c.in-Some.i b (sym c.find_blank.ensures ∙ c.in-Some.is))
 
--- The answer at `in-Some` meets the clause `shorter`.
+-- What stands after that blank is shorter than the text.
 pub returns-in-Some-clause-shorter : goal.returns-in-Some-clause-shorter
 returns-in-Some-clause-shorter c =
     let rest = c.trim_start-rest.result.now in
@@ -27,7 +27,7 @@ returns-in-Some-clause-shorter c =
     let f = found is_blank rest c.in-Some.i (sym c.find_blank.ensures ∙ c.in-Some.is) in
     rw (take_rest rest (c.in-Some.i + 1)) (omega (arith, length-drop (c.in-Some.i + 1) rest, f.1, short))
 
--- The answer at `in-None` meets the clause `tokens`.
+-- A text without a blank is one token.
 pub returns-in-None-clause-tokens : goal.returns-in-None-clause-tokens
 returns-in-None-clause-tokens c =
     let rest = c.trim_start-rest.result.now in

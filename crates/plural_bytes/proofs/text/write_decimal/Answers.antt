@@ -15,15 +15,15 @@ digit_put text at d some inside =
     let next : at - 1 + 1 ≡ at = omega arith in
     drop-set text (at - 1) d (omega arith) ∙ ap (λ i. d ∷ drop i text) next
 
--- The value of `at` stays in its type.
+-- A place is left for one more digit.
 pub overflow_sub-at : goal.overflow_sub-at
 overflow_sub-at c = place_left _ _ _ _ c.loop-rest.invariant.long c.loop-rest.invariant.inside c.loop-rest.auto.rest-fits.fits c.ranges.n.fits c.loop-rest.invariant.written
 
--- The value of `at-2` stays in its type.
+-- And for the first one.
 pub overflow_sub-at-2 : goal.overflow_sub-at-2
 overflow_sub-at-2 c = place_left _ _ _ _ c.loop-rest.invariant.long c.loop-rest.invariant.inside c.loop-rest.auto.rest-fits.fits c.ranges.n.fits c.loop-rest.invariant.written
 
--- A turn of `loop-rest` keeps its invariant.
+-- One more digit before those written.
 pub loop-rest-preserved : goal.loop-rest-preserved
 loop-rest-preserved c =
     let i = c.loop-rest.invariant in
@@ -35,7 +35,7 @@ loop-rest-preserved c =
       long = length-set _ _ _ ∙ i.long;
     }
 
--- The answer meets the clause `digits`.
+-- The digits from the place on spell the number.
 pub returns-clause-digits : goal.returns-clause-digits
 returns-clause-digits c =
     let i = c.loop-rest.invariant in

@@ -1,9 +1,9 @@
 use Rattle.std.proofs.Common.{◌++◌, ◌∙◌, ◌<◌, length, take, sym, arith}
 use Rattle.std.proofs.lemmas.Bool.{eqb-false}
-use Rattle.plural_bytes.proofs.KnownBytes.{appends_more, front_more, cut_more, nothing_left}
+use Rattle.plural_bytes.proofs.KnownBytes.{appends_more, prefix_more, cut_more, nothing_left}
 use Rattle.plural_bytes.proofs.writing.write_all.Goals as goal
 
--- A turn of `loop-rest` keeps its invariant.
+-- One more prefix of the text is written.
 pub loop-rest-preserved : goal.loop-rest-preserved
 loop-rest-preserved g c =
     let i = c.loop-rest.invariant in
@@ -18,9 +18,9 @@ loop-rest-preserved g c =
       nothing = λ e. absurd (nothing_left c.args.text.now i.part.0 rest i.part.1 some e);
     }
 
--- The answer at `in-Err` meets the clause `err`.
+-- A write that failed leaves a prefix of the text written.
 pub returns-in-Err-clause-err : goal.returns-in-Err-clause-err
 returns-in-Err-clause-err g c =
     let i = c.loop-rest.invariant in
     let K = g.K.Sink in
-    front_more (K.holds c.args.sink.now) (K.holds c.loop-rest.sink) (K.holds c.write.new.self) c.args.text.now i.part.0 c.loop-rest.rest.now i.part.1 i.part.2 c.in-Err.ensures.bytes
+    prefix_more (K.holds c.args.sink.now) (K.holds c.loop-rest.sink) (K.holds c.write.new.self) c.args.text.now i.part.0 c.loop-rest.rest.now i.part.1 i.part.2 c.in-Err.ensures.bytes

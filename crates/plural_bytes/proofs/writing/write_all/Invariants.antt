@@ -7,7 +7,7 @@ abbrev pub invariant-loop-rest : goal.invariant-loop-rest
 invariant-loop-rest g l =
     let K = g.K.Sink in
     record {
-      part : (front : List ℕ) × (l.text ≡ front ++ l.rest) × Appends (K.holds l.fn.sink) (K.holds l.sink) front;
+      part : (prefix : List ℕ) × (l.text ≡ prefix ++ l.rest) × Appends (K.holds l.fn.sink) (K.holds l.sink) prefix;
       unfailed : K.faults l.sink ≡ K.faults l.fn.sink;
       nothing : length l.text ≡ 0 → l.sink ≡ l.fn.sink;
     }

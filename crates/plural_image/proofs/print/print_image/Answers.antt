@@ -3,7 +3,7 @@ use Rattle.plural_image.specs.Print.{row_lines}
 use Rattle.plural_image.proofs.PrintedRows.{rows_more}
 use Rattle.plural_image.proofs.print.print_image.Goals as goal
 
--- A turn of `loop-r` keeps its invariant.
+-- One more row is printed.
 pub loop-r-preserved : goal.loop-r-preserved
 loop-r-preserved c =
     let r = c.loop-r.r in

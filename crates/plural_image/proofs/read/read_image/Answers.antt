@@ -5,20 +5,20 @@ use Rattle.plural_image.specs.Image.{overwritten}
 use Rattle.plural_image.proofs.ReadImage.{form_first, address_first, reads_nothing, reads_more}
 use Rattle.plural_image.proofs.read.read_image.Goals as goal
 
--- The invariant of `loop-line` holds at its start.
+-- Before any line the words are zeros.
 pub loop-line-init : goal.loop-line-init
 loop-line-init c = reads_nothing c.args.w c.in_ok-words.words.items (search rules)
 
--- The answer at `in-None` meets the contract.
+-- A line without a shape is the first with a fault.
 pub returns-in-None : goal.returns-in-None
 returns-in-None c = form_first _ c.args.lines.now c.loop-line.line-index _ _ _ c.loop-line-test.true c.loop-line.invariant (rw c.in-None.is at c.line_of.ensures)
 
--- The answer at `then-is_misplaced` meets the contract.
+-- So is a misplaced line.
 pub returns-then-is_misplaced : goal.returns-then-is_misplaced
 returns-then-is_misplaced c =
     address_first _ c.args.lines.now c.loop-line.line-index _ _ _ _ _ c.loop-line-test.true c.loop-line.invariant (rw c.in-Some.is at c.line_of.ensures) (c.is_misplaced.ensures.0 c.if-is_misplaced.true)
 
--- A turn of `loop-line` keeps its invariant.
+-- One more line has its words in their place.
 pub loop-line-preserved : goal.loop-line-preserved
 loop-line-preserved c =
     let items = c.loop-line.words.items in

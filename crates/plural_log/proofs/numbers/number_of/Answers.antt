@@ -3,7 +3,7 @@ use Rattle.std.specs.Prelude.{unwrap_or}
 use Rattle.plural_map.proofs.Lookups.{found}
 use Rattle.plural_log.proofs.numbers.number_of.Goals as goal
 
--- The answer meets the contract.
+-- The number that is kept is that of the first task of the name.
 pub returns : goal.returns
 returns c =
     let ts = c.args.tasks.now in

@@ -7,7 +7,7 @@ use Rattle.plural_log.specs.Numbers.{number_for}
 use Rattle.plural_log.proofs.NameNumbers.{number_more}
 use Rattle.plural_log.proofs.numbers.numbers.Goals as goal
 
--- A turn of `loop-t` keeps its invariant.
+-- One more task is noted.
 pub loop-t-preserved : goal.loop-t-preserved
 loop-t-preserved c = λ q.
     let ts = c.args.tasks.now in

@@ -3,7 +3,7 @@ use Rattle.plural_log.specs.Print.{task_texts}
 use Rattle.plural_log.proofs.TaskTexts.{texts_next}
 use Rattle.plural_log.proofs.printing.put_tasks.Goals as goal
 
--- A turn of `loop-t` keeps its invariant.
+-- One more task line is printed.
 pub loop-t-preserved : goal.loop-t-preserved
 loop-t-preserved c =
     let ts = c.args.tasks.now in

@@ -6,7 +6,7 @@ use Rattle.plural_bytes.specs.Hexadecimal.{hex_text}
 use Rattle.plural_log.proofs.TaskTexts.{four_put}
 use Rattle.plural_log.proofs.printing.put_trap.Goals as goal
 
--- The answer meets the contract.
+-- The four parts of a trap stand one after the other.
 pub returns : goal.returns
 returns c =
     on_ok_weaker c.put_word.result

@@ -1,6 +1,6 @@
 use Rattle.plural_map_text.proofs.draft.add_line.Goals as goal
 
--- The answer at `in-After` meets the contract.
+-- The dependency is on the task of this name.
 pub returns-in-After : goal.returns-in-After
 returns-in-After c =
     let e = rw c.deref.ensures.value at c.number_of-task.ensures.number in

@@ -1,5 +1,5 @@
 use Rattle.plural_map_text.proofs.draft.region_outside.Goals as goal
 
--- The answer at `in-Ok` meets the contract.
+-- All instances of the current task lie inside.
 pub returns-in-Ok : goal.returns-in-Ok
 returns-in-Ok c = rw c.in-Some.is (rw c.quota.ensures at c.in-Ok.ensures.inside)

@@ -1,6 +1,6 @@
 use Rattle.plural_reread.proofs.FaultlessMaps.{map_fits}
 use Rattle.plural_reread.proofs.laws.map_fits.Goals as goal
 
--- The answer meets the contract.
+-- The map of lines without a fault is within all limits.
 pub returns : goal.returns
 returns c = map_fits

@@ -2,10 +2,10 @@ use Rattle.std.proofs.Common.{sym}
 use Rattle.plural_sections.proofs.Cuts.{all_blank, left_over}
 use Rattle.plural_sections.proofs.border.nothing_after.Goals as goal
 
--- The answer at `in-None` meets the contract.
+-- No line has a text if none is found.
 pub returns-in-None : goal.returns-in-None
 returns-in-None c = all_blank c.args.lines.now (sym c.in-None.ensures)
 
--- The answer at `in-Some` meets the contract.
+-- The line that is found is the first with a text.
 pub returns-in-Some : goal.returns-in-Some
 returns-in-Some c = left_over c.args.lines.now c.in-Some.n _ (sym c.in-Some.ensures)

@@ -4,7 +4,7 @@ use Rattle.plural_sections.specs.Sections.{up_to_header}
 use Rattle.plural_sections.proofs.Cuts.{section_from, cut_rest}
 use Rattle.plural_sections.proofs.sections.section_of.Goals as goal
 
--- The answer meets the clause `section`.
+-- The lines of the section follow the first line that is its header.
 pub returns-clause-section : goal.returns-clause-section
 returns-clause-section c =
     c.next_section.ensures.lines ∙ ap (λ x. up_to_header (text_lines x)) (cut_rest c.args.lines.now c.section_start-start.result)
