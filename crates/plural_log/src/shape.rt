@@ -76,7 +76,7 @@ fn task_line(text: &[u8]) -> Option<LogLine>
 }
 
 /// What stands after a word that is a text's first token.
-#[inline(never)]
+#[inline(always)]
 fn after_token<'a>(text: &'a [u8], word: &[u8]) -> Option<&'a [u8]>
     requires { is_one_word word.now ≡ true }
     ensures { MatchOption result ((ts : List (List ℕ)) → tokens text.now ≡ word.now ∷ ts → ⊥)
@@ -84,6 +84,17 @@ fn after_token<'a>(text: &'a [u8], word: &[u8]) -> Option<&'a [u8]>
 {
     let rest = trim_start(text).strip_prefix(word)?;
     if ends_token(rest) { Some(rest) } else { None }
+}
+
+/// The same, for a word that has other blanks before and after it than a printed one.
+#[cold]
+#[inline(never)]
+fn after_other_blanks<'a>(text: &'a [u8], word: &[u8]) -> Option<&'a [u8]>
+    requires { is_one_word word.now ≡ true }
+    ensures { MatchOption result ((ts : List (List ℕ)) → tokens text.now ≡ word.now ∷ ts → ⊥)
+        (λ r. tokens text.now ≡ word.now ∷ tokens r.now) }
+{
+    after_token(text, word)
 }
 
 /// What stands after a word that is a text's first token, given as it is printed: with a space before and after it.
@@ -97,7 +108,7 @@ fn after_word<'a>(text: &'a [u8], printed: &[u8]) -> Option<&'a [u8]>
 {
     match text.strip_prefix(printed) {
         Some(rest) => Some(rest),
-        None => after_token(text, &printed[1..printed.len() - 1]),
+        None => after_other_blanks(text, &printed[1..printed.len() - 1]),
     }
 }
 
@@ -166,14 +177,11 @@ fn code_of(text: &[u8]) -> Option<(EndShape, &[u8])>
     ensures { MatchOption result (code_of (tokens text.now) ≡ None)
         (λ r. code_of (tokens text.now) ≡ Some (r.0, tokens r.1.now)) }
 {
-    let (code, rest) = next_token(text)?;
-    if is_word(code, b"0") {
-        Some((EndShape::Code0, rest))
-    } else if is_word(code, b"1") {
-        Some((EndShape::Code1, rest))
-    } else {
-        None
+    if let Some(rest) = after_token(text, b"0") {
+        return Some((EndShape::Code0, rest));
     }
+    let rest = after_token(text, b"1")?;
+    Some((EndShape::Code1, rest))
 }
 
 fn end_of(text: &[u8]) -> Option<(EndShape, &[u8])>
@@ -210,6 +218,7 @@ fn run_line(text: &[u8]) -> Option<LogLine>
 }
 
 /// The shape of a line, if it has one.
+#[inline(never)]
 pub(crate) fn shape_of(text: &[u8]) -> Option<LogLine>
     ensures { result ≡ shape_of text.now }
 {
