@@ -222,14 +222,12 @@ fn run_line(text: &[u8]) -> Option<LogLine>
 pub(crate) fn shape_of(text: &[u8]) -> Option<LogLine>
     ensures { result ≡ shape_of text.now }
 {
-    let (word, rest) = next_token(text)?;
-    if is_word(word, b"log") {
-        first_line(rest)
-    } else if is_word(word, b"task") {
-        task_line(rest)
-    } else if is_word(word, b"run") {
-        run_line(rest)
-    } else {
-        None
+    if let Some(rest) = after_token(text, b"run") {
+        return run_line(rest);
     }
+    if let Some(rest) = after_token(text, b"task") {
+        return task_line(rest);
+    }
+    let rest = after_token(text, b"log")?;
+    first_line(rest)
 }
