@@ -9,7 +9,7 @@ use Rattle.std.proofs.lemmas.List.Folds.{list_all-append}
 use Rattle.plural_bytes.specs.Lines.{is_blank, drop_while}
 use Rattle.plural_base.specs.Names.{name_of}
 use Rattle.plural_base.proofs.ListTests.{HasNone, position_at, before_at, after_at, drop_past}
-use Rattle.plural_bytes.proofs.PrintedLines.{begins_of, no_front}
+use Rattle.plural_bytes.proofs.PrintedLines.{begins_of, no_first_blanks}
 use Rattle.plural_isa.specs.RegisterNames.{named}
 use Rattle.plural_statement.specs.Mnemonics.{mnemonic_text, mnemonic_of}
 use Rattle.plural_statement.specs.Operands.{is_open, one_of, two_of, three_of, unsigned_in, signed_in, formed, halves, indexed}
@@ -27,7 +27,7 @@ use Rattle.plural_asm.proofs.MnemonicTexts.{IsSpelled}
 pub instruction_at : (k : Mnemonic) (o : List ℕ) → IsSpelled k → instruction (mnemonic_text k ++ 32 ∷ o) ≡ statement_at k o
 instruction_at k o s =
     let text = mnemonic_text k ++ 32 ∷ o in
-    let front : drop_while is_blank text ≡ text = no_front text (begins_of (mnemonic_text k) (32 ∷ o) (plain_of (mnemonic_text k) (solid_of (mnemonic_text k) s.0)) (ltb-true 0 (length (mnemonic_text k)) s.1)) in
+    let front : drop_while is_blank text ≡ text = no_first_blanks text (begins_of (mnemonic_text k) (32 ∷ o) (plain_of (mnemonic_text k) (solid_of (mnemonic_text k) s.0)) (ltb-true 0 (length (mnemonic_text k)) s.1)) in
     let some : eqb (length text) 0 ≡ false = ne_eqb (length text) 0 (λ e. omega (arith, length-append (mnemonic_text k) (32 ∷ o))) in
     ap (λ t. cond (length t == 0) (Some Nothing) (option_and_then (λ j. statement_at j (after_first is_blank t)) (mnemonic_of (before_first is_blank t)))) front
     ∙ cond-false _ _ _ some

@@ -4,7 +4,7 @@ use Rattle.std.specs.List.{list_all}
 use Rattle.std.proofs.lemmas.Bool.{and_from}
 use Rattle.std.proofs.lemmas.List.Folds.{list_all-append}
 use Rattle.plural_base.proofs.ListTests.{HasNone, none_pass, position_none, all_append}
-use Rattle.plural_bytes.proofs.PrintedLines.{is_inner, EndsInToken, IsLine, all_inner, ends_of, ends_behind, plain_line, line_more}
+use Rattle.plural_bytes.proofs.PrintedLines.{is_inner, EndsInToken, IsLine, all_inner, ends_of, ends_after, plain_line, line_more}
 use Rattle.plural_statement.specs.Statement.{is_colon, label_of, unlabelled}
 use Rattle.plural_asm.proofs.Plain.{is_word, is_solid, IsOperand, solid_no_colon, solid_of, plain_of}
 
@@ -30,7 +30,7 @@ last_tail x h = record { inner = all_inner x (plain_of x h.solid); ends = ends_o
 pub more_tail : (x y : List ℕ) → IsOperand x → IsTail y → IsTail (x ++ 44 ∷ 32 ∷ y)
 more_tail x y h t = record {
   inner = list_all-append is_inner x (44 ∷ 32 ∷ y) ∙ and_from _ _ (all_inner x (plain_of x h.solid)) t.inner;
-  ends = ends_behind x (44 ∷ 32 ∷ y) (ends_behind (44 ∷ 32 ∷ []) y t.ends);
+  ends = ends_after x (44 ∷ 32 ∷ y) (ends_after (44 ∷ 32 ∷ []) y t.ends);
   no_colon = all_append (λ c. is_colon c ≡ false) x (44 ∷ 32 ∷ y) (no_colon_in x h.solid) (refl, (refl, t.no_colon));
 }
 

@@ -1,5 +1,5 @@
 -- The faults of kernel lines. Labels and targets are looked up in the whole list of lines.
-use Rattle.std.specs.Prelude.{◌≡◌, ℕ, ◌+◌, ◌≤◌, Bool, true, false, ◌||◌, ◌&&◌, List, Option, Some, None, MatchOption, ⊤, length, is_some, is_none, nat_lt, nat_le}
+use Rattle.std.specs.Prelude.{◌≡◌, ℕ, ◌+◌, Bool, true, false, ◌||◌, ◌&&◌, List, Option, Some, None, length, is_some, is_none, nat_lt, nat_le}
 use Rattle.plural_bytes.specs.Lines.{TextLine}
 use Rattle.plural_sections.specs.Errors.{Tells}
 use Rattle.plural_statement.specs.Statement.{line_of}
@@ -65,13 +65,6 @@ abbrev pub Breaks : List TextLine → List TextLine → List ℕ → AsmKind →
 Breaks all before text kind =
     HasKind (λ q. place_of before q) (place_after before) (length (labels_of before)) (line_of text)
     (target_offset (λ q. place_of all q) (place_after before) (line_of text).statement) kind
-
--- The least kind of a line, or none.
-abbrev pub IsVerdict : (List ℕ → Option ℕ) → (here labels : ℕ) → KernelLine → Option Offset → Option AsmKind → Type 0
-IsVerdict earlier here labels line offset r =
-    MatchOption r ((k : AsmKind) → HasKind earlier here labels line offset k → ⊥)
-    (λ kind. HasKind earlier here labels line offset kind
-    × ((k : AsmKind) → HasKind earlier here labels line offset k → rank kind ≤ rank k))
 
 -- The first faulty line and its least kind, or that memory ran out.
 abbrev pub Faults : List TextLine → LineError AsmKind → Type 0

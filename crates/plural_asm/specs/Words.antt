@@ -88,7 +88,7 @@ words_at place here (Some (Li rd (Some w))) = li_words rd w
 words_at place here (Some (Jump rd t)) = jump_word rd (offset_at place here 1048576 t) ∷ []
 words_at place here (Some (Branch op rs1 rs2 t)) = branch_word op rs1 rs2 (offset_at place here 4096 t) ∷ []
 
--- What lines make one after the other, where each line is told how many words stand before it.
+-- What lines make one after the other. Each line is told how many words stand before it.
 abbrev pub gathered : {A : Type 0} → (ℕ → List ℕ → List A) → ℕ → List TextLine → List A
 gathered make here [] = []
 gathered make here (l ∷ ls) = make here l.1 ++ gathered make (here + size_of l.1) ls

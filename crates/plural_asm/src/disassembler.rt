@@ -186,7 +186,7 @@ fn put_instr(alloc: Global, out: &mut Vec<u8>, word: u32, instr: Instr) -> Resul
 }
 
 /// The text of a word: its instruction's mnemonic and operands, with registers as `x0` to `x31`,
-/// numbers in decimal and targets as offsets; `.word 0x` and eight digits where the word decodes to
+/// numbers in decimal and targets as offsets; `.word 0x` and eight digits if the word decodes to
 /// no instruction, or to a fence other than `fence`.
 pub fn disassemble(alloc: Global, word: u32) -> Result<Vec<u8>, Memory>
     ensures { IfOk result (λ v. v.items ≡ word_text word) }

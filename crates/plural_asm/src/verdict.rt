@@ -4,7 +4,8 @@ ghost use Rattle.std.specs.Prelude.{◌≡◌};
 ghost use Rattle.std.specs.BTreeMap.{get_by};
 ghost use Rattle.std.specs.Cmp.Lexicographic.{slice_cmp};
 ghost use Rattle.std.specs.Ordering.{nat_cmp};
-ghost use Rattle.plural_asm.specs.Rules.{is_out_of_range, is_defined, is_unknown, is_far, IsVerdict};
+ghost use Rattle.plural_sections.specs.LineKinds.{IsVerdict};
+ghost use Rattle.plural_asm.specs.Rules.{is_out_of_range, is_defined, is_unknown, is_far, HasKind, rank};
 
 use crate::object::AsmKind;
 use crate::offset::Offset;
@@ -53,7 +54,8 @@ pub(crate) fn verdict(
     line: &KernelLine,
     offset: Option<Offset>,
 ) -> Option<AsmKind>
-    ensures { IsVerdict (λ q. get_by (λ k. slice_cmp nat_cmp q k) earlier.now) here labels line.now offset result }
+    ensures { IsVerdict rank
+        (HasKind (λ q. get_by (λ k. slice_cmp nat_cmp q k) earlier.now) here labels line.now offset) result }
 {
     if line.statement.is_none() {
         return Some(AsmKind::Form);

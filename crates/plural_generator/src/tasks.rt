@@ -1,7 +1,7 @@
 //! The tasks and their map.
 ghost use Rattle.std.specs.Prelude.{◌≡◌, ◌≤◌, true, [], ◌∷◌, IfOk};
 ghost use Rattle.plural_base.specs.Names.{is_name};
-ghost use Rattle.plural_generator.specs.Tasks.{reads, writes, after, fir_task, top_task, best_task, loud_task, quiet_task, done_task, made_tasks, made_map};
+ghost use Rattle.plural_generator.specs.Tasks.{reads, writes, after, dup_task, regular_task, fir_task, top_task, best_task, loud_task, quiet_task, done_task, made_tasks, made_map};
 
 use arrayvec::ArrayVec;
 use plural_bytes::{Memory, Name};
@@ -54,6 +54,49 @@ fn after(task: u32, when: When) -> ArrayVec<Dep, 16>
     deps
 }
 
+/// A task of this many instances, which begin at the label of the task's own name.
+fn dup_task(
+    name: Name,
+    quota: u32,
+    budget: u32,
+    deps: ArrayVec<Dep, 16>,
+    regions: ArrayVec<Region, 8>,
+) -> Task
+    ensures { result ≡ dup_task name quota budget deps.items regions.items }
+{
+    Task::of(TaskParts {
+        name,
+        dup: true,
+        quota,
+        entry: name,
+        budget,
+        some: false,
+        deps,
+        regions,
+    })
+}
+
+/// A task of one instance, which begins at the label of the task's own name.
+fn regular_task(
+    name: Name,
+    budget: u32,
+    deps: ArrayVec<Dep, 16>,
+    regions: ArrayVec<Region, 8>,
+) -> Task
+    ensures { result ≡ regular_task name budget deps.items regions.items }
+{
+    Task::of(TaskParts {
+        name,
+        dup: false,
+        quota: 1,
+        entry: name,
+        budget,
+        some: false,
+        deps,
+        regions,
+    })
+}
+
 fn fir() -> Task
     ensures { result ≡ fir_task }
 {
@@ -61,17 +104,7 @@ fn fir() -> Task
     regions.push(reads(0, 16, 31));
     regions.push(reads(16_400, 0, 16));
     regions.push(writes(16_416, 16, 16));
-    let name = name(b"fir");
-    Task::of(TaskParts {
-        name,
-        dup: true,
-        quota: 1024,
-        entry: name,
-        budget: 10_000,
-        some: false,
-        deps: ArrayVec::new(),
-        regions,
-    })
+    dup_task(name(b"fir"), 1024, 10_000, ArrayVec::new(), regions)
 }
 
 fn top() -> Task
@@ -80,17 +113,7 @@ fn top() -> Task
     let mut regions = ArrayVec::new();
     regions.push(reads(16_416, 2048, 2048));
     regions.push(writes(32_800, 1, 1));
-    let name = name(b"top");
-    Task::of(TaskParts {
-        name,
-        dup: true,
-        quota: 8,
-        entry: name,
-        budget: 100_000,
-        some: false,
-        deps: after(0, When::Any),
-        regions,
-    })
+    dup_task(name(b"top"), 8, 100_000, after(0, When::Any), regions)
 }
 
 fn best() -> Task
@@ -100,17 +123,7 @@ fn best() -> Task
     regions.push(reads(32_800, 0, 8));
     regions.push(reads(32_810, 0, 1));
     regions.push(writes(32_808, 0, 1));
-    let name = name(b"best");
-    Task::of(TaskParts {
-        name,
-        dup: false,
-        quota: 1,
-        entry: name,
-        budget: 1000,
-        some: false,
-        deps: after(1, When::Any),
-        regions,
-    })
+    regular_task(name(b"best"), 1000, after(1, When::Any), regions)
 }
 
 fn loud() -> Task
@@ -118,17 +131,7 @@ fn loud() -> Task
 {
     let mut regions = ArrayVec::new();
     regions.push(writes(32_809, 0, 1));
-    let name = name(b"loud");
-    Task::of(TaskParts {
-        name,
-        dup: false,
-        quota: 1,
-        entry: name,
-        budget: 100,
-        some: false,
-        deps: after(2, When::Code1),
-        regions,
-    })
+    regular_task(name(b"loud"), 100, after(2, When::Code1), regions)
 }
 
 fn quiet() -> Task
@@ -136,17 +139,7 @@ fn quiet() -> Task
 {
     let mut regions = ArrayVec::new();
     regions.push(writes(32_811, 0, 1));
-    let name = name(b"quiet");
-    Task::of(TaskParts {
-        name,
-        dup: false,
-        quota: 1,
-        entry: name,
-        budget: 100,
-        some: false,
-        deps: after(2, When::Code0),
-        regions,
-    })
+    regular_task(name(b"quiet"), 100, after(2, When::Code0), regions)
 }
 
 fn done() -> Task
@@ -161,17 +154,7 @@ fn done() -> Task
     regions.push(reads(32_809, 0, 1));
     regions.push(reads(32_811, 0, 1));
     regions.push(writes(32_812, 0, 1));
-    let name = name(b"done");
-    Task::of(TaskParts {
-        name,
-        dup: false,
-        quota: 1,
-        entry: name,
-        budget: 100,
-        some: false,
-        deps,
-        regions,
-    })
+    regular_task(name(b"done"), 100, deps, regions)
 }
 
 fn tasks(alloc: Global) -> Result<Vec<Task>, Memory>

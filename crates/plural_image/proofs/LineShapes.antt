@@ -1,13 +1,8 @@
 -- A token that is no word, and the words of tokens one after the other.
-use Rattle.std.proofs.Common.{◌≡◌, ℕ, ◌^◌, ◌<◌, ◌≤◌, Bool, true, false, cond, leb, ltb, List, [], ◌∷◌, ◌++◌, length, Option, Some, None, Ok, Err, refl, ap, sym, ◌∙◌, arith, append_assoc}
+use Rattle.std.proofs.Common.{◌≡◌, ℕ, ◌<◌, ◌≤◌, Bool, true, false, cond, leb, ltb, List, [], ◌∷◌, ◌++◌, length, Option, Some, None, refl, ap, sym, ◌∙◌, arith, append_assoc}
 use Rattle.std.specs.Prelude.{option_map, option_and_then, ◌&&◌}
-use Rattle.std.specs.List.{list_all}
-use Rattle.std.specs.Char.{is_digit}
-use Rattle.std.proofs.lemmas.Bool.{and_parts, and_right, and_from, eq-eqb, le-leb, lt-leb, lt-ltb, le-ltb}
+use Rattle.std.proofs.lemmas.Bool.{and_right, and_from, le-leb, lt-leb, lt-ltb, le-ltb}
 use Rattle.std.proofs.lemmas.List.{append-nil}
-use Rattle.plural_bytes.specs.declared.numerals.NumberError.{NumberError}
-use Rattle.plural_bytes.specs.Numerals.{spelled, value_of, are_digits, within}
-use Rattle.plural_bytes.proofs.DigitValues.{value_below}
 use Rattle.plural_sections.specs.Numbers.{word_token}
 use Rattle.plural_image.specs.Shape.{all_words, one_to_eight}
 

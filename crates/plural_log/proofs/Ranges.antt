@@ -1,10 +1,9 @@
 -- The numbers of an entry's line that are in their ranges.
-use Rattle.std.proofs.Common.{◌≡◌, ℕ, ◌<◌, ◌≤◌, Bool, true, false, ◌||◌, List, refl, arith}
+use Rattle.std.proofs.Common.{◌≡◌, ℕ, ◌<◌, Bool, true, false, ◌||◌, List, refl, arith}
 use Rattle.std.proofs.lemmas.Bool.Decides.{nat_tests}
 use Rattle.plural_log.specs.declared.line.EndShape.{EndShape}
 use Rattle.plural_log.specs.declared.line.Counts.{Counts}
 use Rattle.plural_log.specs.declared.line.Times.{Times}
-use Rattle.plural_log.specs.declared.line.LogLine.{LogLine}
 use Rattle.plural_log.specs.declared.line.LogLine.TheVariants as line
 use Rattle.plural_log.specs.Faults.{is_large, is_no_end, has_large_count, has_large_time, is_out_of_range}
 

@@ -8,7 +8,7 @@ use Rattle.plural_bytes.specs.Lines.{TextLine}
 use Rattle.plural_bytes.specs.declared.lines.Line.{Line}
 use Rattle.plural_bytes.specs.Spelled.{text_line, text_lines}
 use Rattle.plural_sections.specs.Faults.{IsFaultless, IsFirstFault, closed}
-use Rattle.plural_sections.specs.LineKinds.{HasNone, IsLeast, BreaksBy}
+use Rattle.plural_sections.specs.LineKinds.{IsLeast, BreaksBy}
 use Rattle.plural_sections.proofs.FirstFaults.{length_before}
 use Rattle.plural_sections.proofs.ReadLines as reading
 use Rattle.plural_map_text.specs.declared.line.MapLine.{MapLine}

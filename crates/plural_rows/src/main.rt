@@ -5,7 +5,7 @@
 //! 5, 6 or 7 as `plural` does.
 //!
 //! ```text
-//!                an empty line stands in front of each row
+//!                an empty line stands before each row
 //! == TITLE       begins it
 //! $ WORDS        a command, which is given the row's input; each command of a row by itself
 //! LINE           a line of the input
@@ -14,7 +14,7 @@
 //! LINE           a line of the text that it has to write
 //! ```
 //!
-//! What stands in front of the first row is a comment. Inputs whose bytes such lines can't show, and reads and writes
+//! What stands before the first row is a comment. Inputs whose bytes such lines can't show, and reads and writes
 //! that fail, have their tests in `plural_tests`.
 #![tactic(auto)]
 

@@ -1,5 +1,5 @@
 -- How far a text of sections was read without a fault, and what its next lines mean for the whole.
-use Rattle.std.proofs.Common.{◌≡◌, ℕ, ◌+◌, ◌≤◌, ◌<◌, Bool, true, false, List, [], ◌∷◌, ◌++◌, length, drop, refl, ap, sym, subst, ◌∙◌, append_assoc, append-nil, take-append-drop, inl, inr}
+use Rattle.std.proofs.Common.{◌≡◌, ℕ, ◌+◌, ◌<◌, Bool, true, false, List, [], ◌∷◌, ◌++◌, length, drop, refl, ap, sym, subst, ◌∙◌, append_assoc, append-nil, take-append-drop, inl, inr}
 use Rattle.std.specs.Prelude.{bytes_eq}
 use Rattle.std.specs.List.{position_or_len}
 use Rattle.std.proofs.lemmas.Bool.{true≢false}
@@ -15,7 +15,7 @@ use Rattle.plural_sections.specs.Kinds.{rank}
 use Rattle.plural_sections.specs.Errors.{Tells, renamed}
 use Rattle.plural_sections.specs.Sections.{closes, closings, since, up_to_header}
 use Rattle.plural_sections.specs.Borders.{head_of, IsClosed, IsHeaded, IsMissing, AllBlank, IsLeftOver}
-use Rattle.plural_sections.specs.Texts.{Renamed, WholePartBreaks, PastBreaks}
+use Rattle.plural_sections.specs.Texts.{WholePartBreaks, PastBreaks}
 use Rattle.plural_sections.proofs.FirstFaults.{faultless_push, last_first}
 use Rattle.plural_sections.proofs.Delegation.{Delegates, faultless_section, first_in_section}
 use Rattle.plural_sections.proofs.Closings.{NoneCloses, Begins, begins_nothing, begins_next, closings_more}

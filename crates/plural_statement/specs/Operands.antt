@@ -14,7 +14,7 @@ is_comma c = c == 44
 abbrev pub is_open : ℕ → Bool
 is_open c = c == 40
 
--- The token that stands alone, and the empty text where there is none or more than one.
+-- The token that stands alone, and the empty text if there is none or more than one.
 abbrev pub alone : List (List ℕ) → List ℕ
 alone (t ∷ []) = t
 alone _ = []
@@ -23,17 +23,17 @@ alone _ = []
 abbrev pub operands : List ℕ → List (List ℕ)
 operands text = map (λ piece. alone (tokens piece)) (slice_split is_comma text)
 
--- The operand, where there is one.
+-- The operand, if there is one.
 abbrev pub one_of : List (List ℕ) → Option (List ℕ)
 one_of (a ∷ []) = Some a
 one_of _ = None
 
--- The operands, where there are two.
+-- The operands, if there are two.
 abbrev pub two_of : List (List ℕ) → Option (List ℕ × List ℕ)
 two_of (a ∷ b ∷ []) = Some (a, b)
 two_of _ = None
 
--- The operands, where there are three.
+-- The operands, if there are three.
 abbrev pub three_of : List (List ℕ) → Option (List ℕ × List ℕ × List ℕ)
 three_of (a ∷ b ∷ c ∷ []) = Some (a, b, c)
 three_of _ = None

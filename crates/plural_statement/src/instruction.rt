@@ -245,7 +245,7 @@ fn statement_at(mnemonic: Mnemonic, text: &[u8]) -> Option<Statement>
     }
 }
 
-/// What a text without a label says; None where it has no shape of an instruction.
+/// What a text without a label says; None if it has no shape of an instruction.
 pub(crate) fn instruction(text: &[u8]) -> Option<Statement>
     ensures { result ≡ instruction text.now }
 {

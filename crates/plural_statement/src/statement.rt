@@ -6,7 +6,7 @@ use plural_isa::{BranchOp, Reg};
 /// The target of a jump or of a branch.
 #[derive(Clone, Copy, Debug)]
 pub enum Target {
-    /// An offset in bytes; none where it lies beyond the reach of every instruction.
+    /// An offset in bytes; none if it lies beyond the reach of every instruction.
     Offset { bytes: Option<i32> },
     /// A label's place.
     Label { name: Name },
@@ -40,7 +40,7 @@ pub enum Statement {
     },
 }
 
-/// A kernel line: its label, and its instruction where it has the shape of one.
+/// A kernel line: its label, and its instruction if it has the shape of one.
 #[derive(Clone, Copy, Debug)]
 pub struct KernelLine {
     pub label: Option<Name>,

@@ -24,7 +24,7 @@ const LINES: [&str; 15] = [
 ];
 
 /// The first lines of the smallest bundle with this line end after each.
-fn front(alloc: Global, lines: usize, line_end: &str) -> Result<Vec<u8>, AllocError> {
+fn first_lines(alloc: Global, lines: usize, line_end: &str) -> Result<Vec<u8>, AllocError> {
     let mut text = Vec::new(alloc);
     for line in LINES.iter().take(lines) {
         text.extend_from_slice(line.as_bytes())?;
@@ -37,7 +37,7 @@ fn front(alloc: Global, lines: usize, line_end: &str) -> Result<Vec<u8>, AllocEr
 fn a_bundle_that_is_cut_off_is_charged_to_a_line(rt: HostRuntime) -> Result<(), Fail> {
     let alloc = rt.alloc();
     for lines in 0..16 {
-        let answer = answered(&rt, alloc, &["serial"], front(alloc, lines, "\n")?)?;
+        let answer = answered(&rt, alloc, &["serial"], first_lines(alloc, lines, "\n")?)?;
         let mut text = Vec::from_slice(alloc, b"fault: line ")?;
         if lines >= 5 && lines <= 8 {
             text.extend_from_slice(b"5: name\n")?;
@@ -54,7 +54,7 @@ fn a_bundle_that_is_cut_off_is_charged_to_a_line(rt: HostRuntime) -> Result<(), 
 #[test]
 fn a_bundle_that_is_cut_off_within_a_line_is_charged_to_it(rt: HostRuntime) -> Result<(), Fail> {
     let alloc = rt.alloc();
-    let mut input = front(alloc, 14, "\n")?;
+    let mut input = first_lines(alloc, 14, "\n")?;
     input.extend_from_slice(b"00000000: 000000")?;
     let answer = answered(&rt, alloc, &["serial"], input)?;
     assert_eq!(rt; answer.0, 3);
@@ -65,19 +65,19 @@ fn a_bundle_that_is_cut_off_within_a_line_is_charged_to_it(rt: HostRuntime) -> R
 #[test]
 fn line_ends_and_bytes_outside_the_printable_ones_are_read(rt: HostRuntime) -> Result<(), Fail> {
     let alloc = rt.alloc();
-    let mut input = front(alloc, 15, "\r\n")?;
+    let mut input = first_lines(alloc, 15, "\r\n")?;
     input.extend_from_slice(b"[end]\r\n")?;
     let answer = answered(&rt, alloc, &["serial"], input)?;
     assert_eq!(rt; answer.0, 0);
     assert_eq!(rt; answer.1.as_slice(), SUM.as_bytes());
 
-    let mut input = front(alloc, 15, " # \0\n")?;
+    let mut input = first_lines(alloc, 15, " # \0\n")?;
     input.extend_from_slice(b"[end]\n# behind the end\n")?;
     let answer = answered(&rt, alloc, &["run", "--cores=1"], input)?;
     assert_eq!(rt; answer.0, 0);
     assert_eq!(rt; answer.1.as_slice(), SUM.as_bytes());
 
-    let mut input = front(alloc, 4, "\n")?;
+    let mut input = first_lines(alloc, 4, "\n")?;
     input.extend_from_slice(b"task add regular entry start budget 100\0\n")?;
     let answer = answered(&rt, alloc, &["serial"], input)?;
     assert_eq!(rt; answer.1.as_slice(), b"fault: line 5: form\n".as_slice());

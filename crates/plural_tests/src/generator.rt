@@ -131,15 +131,15 @@ fn digest(text: &[u8]) -> u64 {
 #[test]
 fn the_text_is_the_template_filled_in(rt: HostRuntime) -> Result<(), Fail> {
     let text = text(&rt, 1)?;
-    let mut front = Vec::from_slice(rt.alloc(), b"plural 1\n[map]\n")?;
-    front.extend_from_slice(MAP_LINES.as_bytes())?;
-    front.extend_from_slice(b"[kernels]\n")?;
-    front.extend_from_slice(KERNEL_LINES.as_bytes())?;
-    front.extend_from_slice(
+    let mut before = Vec::from_slice(rt.alloc(), b"plural 1\n[map]\n")?;
+    before.extend_from_slice(MAP_LINES.as_bytes())?;
+    before.extend_from_slice(b"[kernels]\n")?;
+    before.extend_from_slice(KERNEL_LINES.as_bytes())?;
+    before.extend_from_slice(
         b"[image]\n00000000: 00000be6 000003ee 00000751 000001c0 00000e3b 00000ee8 00000f38 00000dc0\n",
     )?;
-    assert_eq!(rt; front.len(), 1640);
-    assert!(rt; text.starts_with(&front));
+    assert_eq!(rt; before.len(), 1640);
+    assert!(rt; text.starts_with(&before));
     assert_eq!(rt; text.len(), 169_910);
     assert!(rt; text.ends_with(LAST_LINES.as_bytes()));
     Ok(())

@@ -78,7 +78,7 @@ fn check_writes<R: Threads + Sync + Abort>(rt: &R, alloc: Global, piece: usize) 
 }
 
 #[test]
-fn each_write_that_fails_answers_6_and_leaves_a_front(rt: HostRuntime) -> Result<(), Fail> {
+fn each_write_that_fails_answers_6_and_leaves_a_prefix(rt: HostRuntime) -> Result<(), Fail> {
     let alloc = rt.alloc();
     check_writes(&rt, alloc, 10)?;
     check_writes(&rt, alloc, 16)?;

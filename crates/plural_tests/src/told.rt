@@ -1,10 +1,11 @@
 //! A bus that tells the store to come, and notes the addresses that it reads, in their order.
-ghost use Rattle.std.specs.Prelude.{◌≡◌, ◌%◌, Some, vec_len};
+ghost use Rattle.std.specs.Prelude.{◌≡◌, ◌%◌, Some, IfOk, vec_len};
 ghost use Rattle.plural_cache.specs.Cache.{IsFresh};
 
 use plural_cache::{Bus, Cache};
 use plural_core::DataPort;
 use plural_serial::Cached;
+use std::alloc::{AllocError, Global};
 use std::test::Fail;
 
 /// A memory whose words are all lawful, with one store to come or none.
@@ -56,16 +57,26 @@ impl Bus for Told {
     ghost keeps_both = { λ _ _ _ _ _. tt };
 }
 
-#[test]
-fn a_line_is_filled_by_rising_addresses(rt: HostRuntime) -> Result<(), Fail> {
-    let mut cache = Cache::open(rt.alloc(), 1, 1)?;
-    let mut bus = Told {
-        words: [0; 16].to_vec(rt.alloc())?,
-        coming: None,
+/// A memory of sixteen zeros, of which nothing was read and to which nothing was written.
+fn sixteen_words(alloc: Global, coming: Option<(u32, u32)>) -> Result<Told, AllocError>
+    ensures words { IfOk result (λ b. vec_len b.words ≡ 16) }
+    ensures coming { IfOk result (λ b. b.coming ≡ coming) }
+    ensures counts { IfOk result (λ b. (b.reads ≡ 0) × (b.writes ≡ 0)) }
+{
+    let words = [0; 16].to_vec(alloc)?;
+    Ok(Told {
+        words,
+        coming,
         order: [0; 8],
         reads: 0,
         writes: 0,
-    };
+    })
+}
+
+#[test]
+fn a_line_is_filled_by_rising_addresses(rt: HostRuntime) -> Result<(), Fail> {
+    let mut cache = Cache::open(rt.alloc(), 1, 1)?;
+    let mut bus = sixteen_words(rt.alloc(), None)?;
     cache.load(&mut bus, 11);
     assert_eq!(rt; bus.order, [8, 9, 10, 11, 12, 13, 14, 15]);
     Ok(())
@@ -74,13 +85,7 @@ fn a_line_is_filled_by_rising_addresses(rt: HostRuntime) -> Result<(), Fail> {
 #[test]
 fn a_told_bus_takes_the_store_that_it_expects(rt: HostRuntime) -> Result<(), Fail> {
     let mut cache = Cache::open(rt.alloc(), 1, 1)?;
-    let mut bus = Told {
-        words: [0; 16].to_vec(rt.alloc())?,
-        coming: Some((3, 7)),
-        order: [0; 8],
-        reads: 0,
-        writes: 0,
-    };
+    let mut bus = sixteen_words(rt.alloc(), Some((3, 7)))?;
     cache.store(&mut bus, 3, 7);
     assert!(rt; bus.coming.is_none());
     assert_eq!(rt; bus.words[3], 7);
@@ -103,13 +108,7 @@ fn stored(cache: &mut Cache, bus: &mut Told) -> u32
 #[test]
 fn a_told_port_takes_the_store_that_it_expects(rt: HostRuntime) -> Result<(), Fail> {
     let mut cache = Cache::open(rt.alloc(), 1, 1)?;
-    let mut bus = Told {
-        words: [0; 16].to_vec(rt.alloc())?,
-        coming: Some((3, 7)),
-        order: [0; 8],
-        reads: 0,
-        writes: 0,
-    };
+    let mut bus = sixteen_words(rt.alloc(), Some((3, 7)))?;
     let value = stored(&mut cache, &mut bus);
     assert_eq!(rt; (value, bus.reads), (7, 8));
     Ok(())

@@ -32,5 +32,5 @@ loop-line-preserved c = record {
 -- Lines without a fault make at most 16,384 words.
 pub coded-requires : goal.coded-requires
 coded-requires c =
-    let e : length c.loop-line.words.items ≡ c.loop-line.here = ap length c.loop-line.invariant.reads.code ∙ code_length (text_lines c.args.lines.now) (text_lines (take c.loop-line.line-index c.args.lines.now)) ∙ sym c.loop-line.invariant.reads.place in
+    let e : length c.loop-line.words.items ≡ c.loop-line.here = ap length c.loop-line.invariant.reads.read.spelled ∙ code_length (text_lines c.args.lines.now) (text_lines (take c.loop-line.line-index c.args.lines.now)) ∙ sym c.loop-line.invariant.reads.place in
     omega (arith, e, c.loop-line.invariant.small)

@@ -9,11 +9,11 @@ use Rattle.plural_generator.specs.Places.{word_by, generator_after}
 use Rattle.plural_generator.proofs.ImageWords.{generator_next, words_more}
 use Rattle.plural_generator.proofs.draws.image.Goals as goal
 
--- The invariant of `loop-i` holds at its start.
+-- Before any draw the words are zeros.
 pub loop-i-init : goal.loop-i-init
 loop-i-init c = (c.seed_from_u64-rng.ensures ∙ sym (advance_zero 64 multiplier_64 (generator_of c.args.seed)), c.new-words.ensures.items)
 
--- A turn of `loop-i` keeps its invariant.
+-- One more word is drawn.
 pub loop-i-preserved : goal.loop-i-preserved
 loop-i-preserved c =
     let g = generator_of c.args.seed in
@@ -22,14 +22,14 @@ loop-i-preserved c =
       words_more g i _ _ _ c.loop-i.invariant.1 (c.next_word.ensures.word ∙ ap (λ h. word_by h i) c.loop-i.invariant.0) c.in_ok-push.ensures.items,
     )
 
--- The answer meets the clause `words`.
+-- The words are those that the seed draws.
 pub returns-clause-words : goal.returns-clause-words
 unfolding made_image
 returns-clause-words c =
     let e : c.loop-i.i ≡ 32816 = omega (arith, c.loop-i-test.false, c.loop-i.auto.i-end) in
     c.loop-i.invariant.1 ∙ ap (λ n. map (made_word (generator_of c.args.seed)) (range_with_len 0 n)) e
 
--- The answer meets the clause `len`.
+-- They are as many as the map says.
 pub returns-clause-len : goal.returns-clause-len
 returns-clause-len c =
     let e : c.loop-i.i ≡ 32816 = omega (arith, c.loop-i-test.false, c.loop-i.auto.i-end) in

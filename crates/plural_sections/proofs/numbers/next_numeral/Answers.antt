@@ -1,4 +1,4 @@
-use Rattle.std.proofs.Common.{sym, ◌∙◌, drop, arith}
+use Rattle.std.proofs.Common.{sym, ◌∙◌, arith}
 use Rattle.std.proofs.lemmas.List.{take_rest}
 use Rattle.plural_sections.proofs.FirstNumerals.{digits_first}
 use Rattle.plural_sections.proofs.numbers.next_numeral.Goals as goal
