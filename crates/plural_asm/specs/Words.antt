@@ -30,7 +30,7 @@ reaches half (negsuc n) = is_near n half 1
 abbrev pub offset_in : ℕ → ℤ → Offset
 offset_in half z = if reaches half z then At z else Far
 
--- The offset of a target from a place, for an instruction that reaches from -half to half - 1, where
+-- The offset of a target from a place, for an instruction that reaches from -half to half - 1, if
 -- `place` gives the places of labels.
 abbrev pub offset_at : (List ℕ → Option ℕ) → (here half : ℕ) → Target → Offset
 offset_at place here half (target.Offset None) = Far

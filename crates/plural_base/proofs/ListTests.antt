@@ -8,7 +8,7 @@ use Rattle.std.proofs.lemmas.List.Sums.{prefix_len-le-length}
 
 -- ---- what holds of all elements
 
--- A test that passes wherever another does passes at all elements where the other does.
+-- A test that passes wherever another does passes at all elements if the other does.
 pub list_all_weaker : {A : Type 0} (p q : A → Bool) → ((x : A) → p x ≡ true → q x ≡ true) → (xs : List A) → list_all p xs ≡ true → list_all q xs ≡ true
 list_all_weaker p q f [] h = refl
 list_all_weaker p q f (x ∷ xs) h = let r = and_parts (p x) (list_all p xs) h in and_from _ _ (f x r.0) (list_all_weaker p q f xs r.1)
@@ -28,7 +28,7 @@ pub all_append : {A : Type 0} (P : A → Type 0) (xs ys : List A) → AllByRecur
 all_append P [] ys h g = g
 all_append P (x ∷ xs) ys h g = (h.0, all_append P xs ys h.1 g)
 
--- What follows from a fact of each element holds where the fact does.
+-- What follows from a fact of each element holds if the fact does.
 pub all_weaker : {A : Type 0} (P Q : A → Type 0) (xs : List A) → ((x : A) → P x → Q x) → AllByRecursion P xs → AllByRecursion Q xs
 all_weaker P Q [] f h = tt
 all_weaker P Q (x ∷ xs) f h = (f x h.0, all_weaker P Q xs f h.1)
@@ -37,7 +37,7 @@ all_weaker P Q (x ∷ xs) f h = (f x h.0, all_weaker P Q xs f h.1)
 abbrev pub HasNone : {A : Type 0} → (A → Bool) → List A → Type 0
 HasNone p xs = AllByRecursion (λ x. p x ≡ false) xs
 
--- None passes where all pass a test whose elements don't.
+-- None passes if all pass a test whose elements don't.
 pub none_pass : {A : Type 0} (p q : A → Bool) → ((x : A) → p x ≡ true → q x ≡ false) → (xs : List A) → list_all p xs ≡ true → HasNone q xs
 none_pass p q f [] h = tt
 none_pass p q f (x ∷ xs) h = let r = and_parts (p x) (list_all p xs) h in (f x r.0, none_pass p q f xs r.1)
@@ -102,11 +102,11 @@ place_none : {A : Type 0} (p : A → Bool) (xs : List A) → HasNone p xs → po
 place_none p [] h = refl
 place_none p (x ∷ xs) h = rw (h.0, place_none p xs h.1) (omega arith)
 
--- Where none passes, the answer is none.
+-- If none passes, the answer is none.
 pub position_none : {A : Type 0} (p : A → Bool) (xs : List A) → HasNone p xs → position p xs ≡ None
 position_none p xs h = found_none p xs (omega (arith, place_none p xs h))
 
--- All stand before the first that passes, where none does.
+-- All stand before the first that passes, if none does.
 pub before_none : {A : Type 0} (p : A → Bool) (xs : List A) → HasNone p xs → before_first p xs ≡ xs
 before_none p xs h = take_all (position_or_len p xs) xs (omega (arith, place_none p xs h))
 
@@ -119,7 +119,7 @@ none_before p (x ∷ xs) = by (p x) refl (none_before p xs)
     by true e h = subst (HasNone p) (sym (before_yes p x xs e)) tt
     by false e h = subst (HasNone p) (sym (before_no p x xs e)) (e, h)
 
--- None passes where the answer is none.
+-- None passes if the answer is none.
 pub none_when : {A : Type 0} (p : A → Bool) (xs : List A) → position p xs ≡ None → HasNone p xs
 none_when p xs e = subst (HasNone p) (take_all (position_or_len p xs) xs (omega (arith, none_found p xs e))) (none_before p xs)
 

@@ -79,7 +79,7 @@ first_bad input all end error h =
     } in
     subst (Faults input all end) (sym h.is) first
 
--- The first fault is that of what stands after the first line, where it isn't the header of the map.
+-- The first fault is that of what stands after the first line, if it isn't the header of the map.
 pub no_map : (input : List TextLine) {all rest : List TextLine} {version : ℕ} → IsBegun all rest version → (end : ℕ) (error : LineError Fault) → IsMissing (codes "[map]") rest end error
     → Faults input all end error
 no_map input {all} {rest} {version} b end error m =

@@ -1,7 +1,7 @@
 //! Bytes from outside and back, and the texts in them: sources and sinks, lines, numerals, names.
 //!
 //! Promise: what is read and written whole is exactly what the source had left and what the sink
-//! took, a fault is answered only where the count of faults of the object lent for the call rose
+//! took, a fault is answered only if the count of faults of the object lent for the call rose
 //! (`specs/Streams.antt`, `specs/Causes.antt`), and the lines, tokens, numerals and names of a text
 //! are those of `specs/Lines.antt`, `specs/Numerals.antt` and `specs/Names.antt`, for every list of
 //! bytes; numbers are printed in decimal, and words as `specs/Hexadecimal.antt` says.

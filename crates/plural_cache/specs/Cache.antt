@@ -54,7 +54,7 @@ pub record IsCache (c : CacheValue) : Type 0 where
   pub stores : c.stores ≤ 100000000
 
 -- The lines of a set after a load access to line x: x is brought to the front, or put there in place of the oldest
--- where the set is full.
+-- if the set is full.
 abbrev pub loaded : Bool → (ways x : ℕ) → List ℕ → List Line → List Line
 loaded true ways x words ls = brought x ls
 loaded false ways x words ls = record { line = x; words = words } ∷ take (ways - 1) ls

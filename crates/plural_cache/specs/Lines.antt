@@ -7,12 +7,12 @@ use Rattle.plural_cache.specs.Miss.{is_in}
 abbrev pub keys : List Line → List ℕ
 keys ls = map (λ (l : Line). l.line) ls
 
--- The words of line x, where it is present.
+-- The words of line x, if it is present.
 abbrev pub look : ℕ → List Line → Option (List ℕ)
 look x [] = None
 look x (l ∷ ls) = (if l.line == x then Some l.words else look x ls)
 
--- Line x alone, where it is present.
+-- Line x alone, if it is present.
 abbrev pub chosen : ℕ → List Line → List Line
 chosen x [] = []
 chosen x (l ∷ ls) = (if l.line == x then l ∷ [] else chosen x ls)
@@ -22,11 +22,11 @@ abbrev pub others : ℕ → List Line → List Line
 others x [] = []
 others x (l ∷ ls) = (if l.line == x then ls else l ∷ others x ls)
 
--- Line x is the newest, where it is present.
+-- Line x is the newest, if it is present.
 abbrev pub brought : ℕ → List Line → List Line
 brought x ls = chosen x ls ++ others x ls
 
--- Word w of line x is v, where the line is present.
+-- Word w of line x is v, if the line is present.
 abbrev pub updated : (x w v : ℕ) → List Line → List Line
 updated x w v [] = []
 updated x w v (l ∷ ls) = (if l.line == x then record l { words = slice_set l.words w v } ∷ ls else l ∷ updated x w v ls)

@@ -17,7 +17,7 @@ abbrev pub without : ℕ → List ℕ → List ℕ
 without x [] = []
 without x (y ∷ ys) = (if y == x then without x ys else y ∷ without x ys)
 
--- Each of these lines once, where it is newest.
+-- Each of these lines once, if it is newest.
 abbrev pub different : List ℕ → List ℕ
 different [] = []
 different (y ∷ ys) = y ∷ without y (different ys)
@@ -31,7 +31,7 @@ of_set sets s (y ∷ ys) = (if y % sets == s then y ∷ of_set sets s ys else of
 abbrev pub lines_back : List ℕ → List ℕ
 lines_back h = reverse (map (λ a. a / 8) h)
 
--- An access to line x hits after these lines where x is among them, and fewer than `ways` different lines of its set
+-- An access to line x hits after these lines if x is among them, and fewer than `ways` different lines of its set
 -- were accessed since the latest access to x.
 abbrev pub hits_after : (sets ways x : ℕ) → List ℕ → Bool
 hits_after sets ways x back = is_in x back && nat_lt (length (different (of_set sets (x % sets) (since x back)))) ways
@@ -50,6 +50,6 @@ unfoldable pub misses_of : (sets ways : ℕ) → List ℕ → ℕ
 misses_of sets ways h = misses_back sets ways (lines_back h)
 
 -- The lines of set s that are present after the accesses h: its last `ways` different lines, the newest first, or all
--- of them where there are fewer.
+-- of them if there are fewer.
 unfoldable pub present_after : (sets ways : ℕ) (h : List ℕ) (s : ℕ) → List ℕ
 present_after sets ways h s = take ways (different (of_set sets s (lines_back h)))

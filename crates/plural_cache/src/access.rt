@@ -14,7 +14,7 @@ use crate::set::{Line, Set};
 pub struct Loaded {
     /// The word.
     pub value: u32,
-    /// 1 where the access missed, else 0.
+    /// 1 if the access missed, else 0.
     pub misses: u32,
 }
 

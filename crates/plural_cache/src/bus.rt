@@ -37,7 +37,7 @@ pub trait Bus {
     /// A lawful word is a word of the memory.
     ghost within: { (s : Self) (a : ℕ) → (told s).lawful a ≡ true → a < length (told s).words };
 
-    /// What is fixed stays where nothing changes.
+    /// What is fixed stays if nothing changes.
     ghost keeps_none: { (s : Self) → keeps s s };
 
     /// What is fixed stays through two changes in turn.

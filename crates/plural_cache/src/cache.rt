@@ -153,7 +153,7 @@ impl Cache {
         bus.write(a, v);
     }
 
-    /// A load access to word `a`. A line that is absent is filled by eight reads of the bus; where its
+    /// A load access to word `a`. A line that is absent is filled by eight reads of the bus; if its
     /// set is full, the line whose last load access is oldest is dropped.
     #[inline(always)]
     pub fn load<B: Bus>(&mut self, bus: &mut B, a: u32) -> u32

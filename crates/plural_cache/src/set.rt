@@ -125,7 +125,7 @@ impl Set {
         shift_in(&mut self.lines, p, line);
     }
 
-    /// Puts a line first; where the set is full, the last is dropped.
+    /// Puts a line first; if the set is full, the last is dropped.
     pub fn push(&mut self, ways: usize, line: Line)
         requires { (0 < ways) × (ways ≤ 4) }
         ensures { self.new ≡ line ∷ take (ways - 1) self.old }
@@ -145,7 +145,7 @@ impl Set {
         self.lines[0].words[w]
     }
 
-    /// Sets word `w` of line `x`, where the line is present. No age changes.
+    /// Sets word `w` of line `x`, if the line is present. No age changes.
     pub fn update(&mut self, x: u32, w: usize, v: u32)
         requires w { w < 8 }
         ensures order { self.new ≡ updated x w v self.old }

@@ -39,7 +39,7 @@ next x pc n v = Go (put x n v) (sum_of pc 4)
 abbrev pub jump : List ℕ → ℕ → ℕ → ℕ → Act
 jump x pc n target = if target % 4 == 0 then Go (put x n (sum_of pc 4)) target else Trap 3
 
--- A branch that is taken goes to pc + offset, or traps with cause 3 where that isn't aligned.
+-- A branch that is taken goes to pc + offset, or traps with cause 3 if that isn't aligned.
 -- (RV32I 2.1, section 2.5.)
 abbrev pub branch : List ℕ → ℕ → Bool → ℤ → Act
 branch x pc false offset = Go x (sum_of pc 4)

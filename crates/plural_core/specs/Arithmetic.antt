@@ -1,5 +1,5 @@
 -- Numbers of 32 bits, as the integers that they stand for and back. The arithmetic is on integers; each result is
--- taken modulo 2^32 where the standard keeps the low 32 bits.
+-- taken modulo 2^32 if the standard keeps the low 32 bits.
 use Rattle.std.specs.Prelude.{ℕ, ◌+◌, ◌-◌, ◌*◌, ◌/◌, ◌%◌, ◌^◌, ℤ, pos, negsuc, ◌-ℤ◌, ◌*ℤ◌, Bool, nat_lt, int_lt, int_div, int_rem, if◌then◌else◌, ◌==◌}
 
 -- The integer that a word stands for in two's complement.
@@ -65,18 +65,18 @@ mulhsu_of a b = word (high (signed a *ℤ pos b))
 abbrev pub mulhu_of : ℕ → ℕ → ℕ
 mulhu_of a b = a * b / 0x100000000
 
--- DIV: the signed quotient rounded towards zero; all ones where b is 0. (M 2.0, division operations.)
+-- DIV: the signed quotient rounded towards zero; all ones if b is 0. (M 2.0, division operations.)
 abbrev pub div_of : ℕ → ℕ → ℕ
 div_of a b = if b == 0 then 0xffffffff else word (int_div (signed a) (signed b))
 
--- REM: the signed remainder, with the sign of a; a itself where b is 0. (M 2.0, division operations.)
+-- REM: the signed remainder, with the sign of a; a itself if b is 0. (M 2.0, division operations.)
 abbrev pub rem_of : ℕ → ℕ → ℕ
 rem_of a b = if b == 0 then a else word (int_rem (signed a) (signed b))
 
--- DIVU: the unsigned quotient; all ones where b is 0. (M 2.0, division operations.)
+-- DIVU: the unsigned quotient; all ones if b is 0. (M 2.0, division operations.)
 abbrev pub divu_of : ℕ → ℕ → ℕ
 divu_of a b = if b == 0 then 0xffffffff else a / b
 
--- REMU: the unsigned remainder; a itself where b is 0. (M 2.0, division operations.)
+-- REMU: the unsigned remainder; a itself if b is 0. (M 2.0, division operations.)
 abbrev pub remu_of : ℕ → ℕ → ℕ
 remu_of a b = if b == 0 then a else a % b

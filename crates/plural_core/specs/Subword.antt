@@ -14,7 +14,7 @@ size_of Word = 4
 abbrev pub byte_at : ℕ → ℕ → ℕ
 byte_at word address = slice_index (to_le_bytes w32 word) (address % 4)
 
--- A number below 2 · half as a word: as it is, or where the sign counts and it is at least half, less 2 · half.
+-- A number below 2 · half as a word: as it is, or if the sign counts and it is at least half, less 2 · half.
 abbrev pub widened : Bool → ℕ → ℕ → ℕ
 widened false half n = n
 widened true half n = if nat_lt n half then n else 0x100000000 - 2 * half + n

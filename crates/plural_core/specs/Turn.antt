@@ -35,7 +35,7 @@ pub record Step : Type 0 where
   pub loads : List ℕ
   pub stores : List (ℕ × ℕ)
 
--- The end of an instruction that brings the count here: exhausted where this is the budget, else none.
+-- The end of an instruction that brings the count here: exhausted if this is the budget, else none.
 abbrev pub spent : ℕ → ℕ → Option End
 spent budget count = if count == budget then Some end.Exhausted else None
 
@@ -83,7 +83,7 @@ abbrev pub code_of : ℕ → End
 code_of zero = end.Code0
 code_of (suc n) = end.Code1
 
--- Ecall ends the instance with code x10 where that is 0 or 1, and counts one; else it traps with cause 9.
+-- Ecall ends the instance with code x10 if that is 0 or 1, and counts one; else it traps with cause 9.
 abbrev pub finished : State → List ℕ → Step
 finished s m =
     if nat_le (get s.registers 10) 1 then
@@ -95,8 +95,8 @@ finished s m =
     }
     else trapped s m 9
 
--- What an effect does under the guard: a load traps with cause 4 where it isn't aligned and 5 where its word may not
--- be read, a store with 6 where it isn't aligned and 7 where its word may not be written.
+-- What an effect does under the guard: a load traps with cause 4 if it isn't aligned and 5 if its word may not
+-- be read, a store with 6 if it isn't aligned and 7 if its word may not be written.
 abbrev pub does : Place → State → List ℕ → Act → Step
 does p s m (a.Go x pc) = record { state = going p s x pc; memory = m; loads = []; stores = [] }
 does p s m (a.Read address width sign rd) =
@@ -128,7 +128,7 @@ place_of code regions c = record { code = code; regions = regions; k = c.k; budg
 abbrev pub turn_of : List ℕ → List Region → Core → List ℕ → Step
 turn_of code regions c m = turn (place_of code regions c) c.state m
 
--- What a turn answers: the end where there is one.
+-- What a turn answers: the end if there is one.
 abbrev pub outcome_of : Option End → Turn
 outcome_of None = outcome.Going
 outcome_of (Some e) = outcome.Over e

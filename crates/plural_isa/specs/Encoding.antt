@@ -63,7 +63,7 @@ IsWithin half z = (neg_ℤ (pos half) ≤ℤ z) × (z <ℤ pos half)
 abbrev pub IsOffset : ℕ → ℤ → Type 0
 IsOffset half z = (neg_ℤ (pos half) ≤ℤ z) × (z <ℤ pos half) × (bits_of half z % 2 ≡ 0)
 
--- z is a shift amount where the operation shifts, else an I immediate.
+-- z is a shift amount if the operation shifts, else an I immediate.
 abbrev pub IsAmount : Bool → ℤ → Type 0
 IsAmount true z = (pos 0 ≤ℤ z) × (z <ℤ pos 32)
 IsAmount false z = IsWithin 2048 z

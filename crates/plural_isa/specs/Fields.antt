@@ -26,7 +26,7 @@ rs2 w = w / 1048576 % 32
 abbrev pub funct7 : ℕ → ℕ
 funct7 w = w / 33554432 % 128
 
--- What a number stands for in two's complement, where its sign bit counts half.
+-- What a number stands for in two's complement, if its sign bit counts half.
 abbrev pub signed : ℕ → ℕ → ℤ
 signed half n = if nat_lt n half then pos n else pos n -ℤ pos (2 * half)
 

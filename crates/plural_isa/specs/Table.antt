@@ -195,6 +195,6 @@ abbrev pub fixes_funct7 : Fixed → Bool
 fixes_funct7 (Funct3And7 a b) = true
 fixes_funct7 _ = false
 
--- An operation on an immediate is a shift by an amount where its row fixes what stands above the amount.
+-- An operation on an immediate is a shift by an amount if its row fixes what stands above the amount.
 abbrev pub is_shift : ImmOp → Bool
 is_shift op = fixes_funct7 (row_of (Imm op)).fixed

@@ -79,7 +79,7 @@ fn instr_of(operation: Operation, word: u32) -> Instr
 }
 
 /// The instruction that the word spells: the instruction of the word's row of the table (RV32I 2.1 and
-/// M 2.0, "RV32/64G Instruction Set Listings"), with the word's fields. None where no row is the word's.
+/// M 2.0, "RV32/64G Instruction Set Listings"), with the word's fields. None if no row is the word's.
 pub fn decode(word: u32) -> Option<Instr>
     ensures { result ≡ decoded word }
 {

@@ -10,7 +10,7 @@ use crate::instr::{ImmOp, Instr};
 use crate::reg::Reg;
 use crate::table::{Operation, fixed_fields, is_shift, whole_word};
 
-/// The bits of a number in two's complement, where the sign bit counts `half`.
+/// The bits of a number in two's complement, if the sign bit counts `half`.
 fn bits_of(number: i32, half: u32) -> u32
     requires half { half ≤ 1048576 }
     requires within { IsWithin half number }

@@ -5,7 +5,7 @@ ghost use Rattle.plural_isa.specs.Fields.{rd, rs1, rs2, funct3, funct7, signed, 
 
 use crate::reg::Reg;
 
-/// What the number stands for in two's complement, where its sign bit counts `half`.
+/// What the number stands for in two's complement, if its sign bit counts `half`.
 fn sign_extended(number: u32, half: u32) -> i32
     requires half { half ≤ 1048576 }
     requires fits { number < 2 * half }

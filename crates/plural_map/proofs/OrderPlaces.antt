@@ -71,7 +71,7 @@ order_from_long (suc fuel) tasks done = by (next_ready tasks done) (λ t. order_
 pub order_long : (tasks : List TaskValue) → length (order_of tasks) ≤ length tasks
 order_long tasks = let h = order_from_long (length tasks) tasks [] in omega (arith, h)
 
--- 1 where a test passes.
+-- 1 if a test passes.
 abbrev one_if : Bool → ℕ
 one_if b = cond b 1 0
 

@@ -12,14 +12,14 @@ use Rattle.plural_regions.specs.declared.triple.Meet.{Meet}
 
 -- ---- first and last words
 
--- Where all words of an instance are below w, so is the last.
+-- If all words of an instance are below w, so is the last.
 pub inside_end : (r : Region) (k w : ℕ) → IsInside r k w → r.base + r.stride * k + r.count ≤ w
 inside_end r k w h =
     let some : 1 ≤ r.count = r.nonempty in
     let last : r.base + r.stride * k + r.count - 1 < w = h (r.base + r.stride * k + r.count - 1) (r.count - 1, omega arith, omega arith) in
     omega arith
 
--- Where some word of an instance is w or more, the last is.
+-- If some word of an instance is w or more, the last is.
 pub outside_end : (r : Region) (k w : ℕ) → IsOutside r k w → w < r.base + r.stride * k + r.count
 outside_end r k w h = let high : w ≤ h.0 = h.1 in let i = h.2.0 in let l : i < r.count = h.2.1 in let e : r.base + r.stride * k + i ≡ h.0 = h.2.2 in omega arith
 
@@ -36,7 +36,7 @@ reach_of r s q1 q2 same k l a m =
     let j = m.in_second.0 in let below_second : j < s.count = m.in_second.1 in let second_is : s.base + s.stride * l + j ≡ a = m.in_second.2 in
     record { begins = omega arith; ends = omega arith }
 
--- Where it has one, they meet at the later of their first words.
+-- If it has one, they meet at the later of their first words.
 pub meet_of : (r s : Region) (q1 q2 : ℕ) (same : Bool) (k l : ℕ) → k < q1 → l < q2 → (same ≡ true → k < l) → Reaches s (r.base + r.stride * k) r.count l
     → Meets r q1 s q2 same k l (max (r.base + r.stride * k) (s.base + s.stride * l))
 meet_of r s q1 q2 same k l p q ordered h =
@@ -133,13 +133,13 @@ least_from r s q1 q2 same k l a first h = record {
   };
 }
 
--- Where no earlier instance meets any, one that meets some comes no earlier.
+-- If no earlier instance meets any, one that meets some comes no earlier.
 pub none_earlier : (r s : Region) (q1 q2 : ℕ) (same : Bool) (k : ℕ) → ((i : ℕ) → i < k → NeverAt r q1 s q2 same i) → (i j b : ℕ) → Meets r q1 s q2 same i j b → k ≤ i
 none_earlier r s q1 q2 same k none i j b m = ⊎_elim (λ (l : i < k). absurd (none i l j b m)) (λ (l : k ≤ i). l) (cases_lt i k)
 
 -- ---- candidates
 
--- Of one task and one stride, instance 0 meets where any does.
+-- Of one task and one stride, instance 0 meets if any does.
 pub candidate_zero : (r s : Region) (q1 q2 : ℕ) (same : Bool) → same ≡ true → r.stride ≡ s.stride → 0 < q1 → IsCandidate r q1 s q2 same 0
 candidate_zero r s q1 q2 same one even some = record {
   below = some;

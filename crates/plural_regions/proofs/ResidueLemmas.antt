@@ -12,7 +12,7 @@ reduced a b m x =
     let r : ((a % m * x) % m + b % m) % m ≡ (a % m * x + b % m) % m = mod-add-mod (a % m * x) m (b % m) in
     l ∙ (ap (λ (y : ℕ). (y + b % m) % m) (sym (mul-mod_first a x m)) ∙ r)
 
--- The remainder of what a pass leaves, where v stands x steps after it.
+-- The remainder of what a pass leaves, if v stands x steps after it.
 left_after : (s hi v x y : ℕ) → v ≤ hi → y ≡ (hi - v) + s * x → y % s ≤ hi
 left_after s hi v x y small e =
     let f : y % s ≡ (hi - v) % s = ap (λ (z : ℕ). z % s) e ∙ add-mul-mod_self_left (hi - v) s x in
@@ -33,7 +33,7 @@ first_after s t p h =
     let l : (t - 1) % s < s = mod_below (t - 1) s p in
     (s - 1 - (t - 1) % s, omega arith, omega arith)
 
--- Where the first number after a pass stands v after it and the pass is followed by a small remainder, v is small.
+-- If the first number after a pass stands v after it and the pass is followed by a small remainder, v is small.
 small_after : (s hi v x y : ℕ) → v < s → y + v ≡ hi + s * x → 1 ≤ x → y % s ≤ hi → v ≤ hi
 small_after s hi v zero y l e h small = absurd (omega arith)
 small_after s hi v (suc x) y l e h small = ⊎_elim (λ (p : hi < v). absurd (large p)) (λ (p : v ≤ hi). p) (cases_lt hi v)
@@ -99,7 +99,7 @@ none_still n a b m hi p e low = λ x l.
     let i : b % m % m ≡ b % m = mod-eq_of_lt (mod_below b m p) in
     omega arith
 
--- Where no pass is followed by a small remainder, no number below n has one.
+-- If no pass is followed by a small remainder, no number below n has one.
 pub none_passes : (n a b m hi : ℕ) → 0 < m → hi < b % m → HasNoResidue ((a % m * (n - 1) + b % m) / m) m (hi + (m - b % m)) (a % m) hi → HasNoResidue n a b m hi
 none_passes n a b m hi p low none = λ x l. rw (reduced a b m x) (⊎_elim (λ (h : hi < (a % m * x + b % m) % m). h) (λ (h : (a % m * x + b % m) % m ≤ hi). absurd (small x l h)) (cases_lt hi ((a % m * x + b % m) % m)))
   where

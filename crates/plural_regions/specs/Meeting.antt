@@ -11,8 +11,8 @@ pub record Meets (r : Region) (q1 : ℕ) (s : Region) (q2 : ℕ) (same_task : Bo
   pub in_first : IsIn r k a
   pub in_second : IsIn s l a
 
--- The triple (k, l, a) is no later than (i, j, b): by the first numbers, where these are the same by the second, and
--- where these are the same too by the third.
+-- The triple (k, l, a) is no later than (i, j, b): by the first numbers, if these are the same by the second, and
+-- if these are the same too by the third.
 pub record IsNoLater (k l a i j b : ℕ) : Type 0 where
   pub first : k ≤ i
   pub second : k ≡ i → l ≤ j

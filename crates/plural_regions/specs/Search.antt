@@ -29,7 +29,7 @@ pub record IsLeastAt (r : Region) (q1 : ℕ) (s : Region) (q2 : ℕ) (same_task 
 abbrev pub NeverAt : Region → ℕ → Region → ℕ → Bool → ℕ → Type 0
 NeverAt r q1 s q2 same_task k = (l a : ℕ) → Meets r q1 s q2 same_task k l a → ⊥
 
--- No instance before k meets any, and where some instance meets one, k does.
+-- No instance before k meets any, and if some instance meets one, k does.
 pub record IsCandidate (r : Region) (q1 : ℕ) (s : Region) (q2 : ℕ) (same_task : Bool) (k : ℕ) : Type 0 where
   pub below : k < q1
   pub first : (i j b : ℕ) → Meets r q1 s q2 same_task i j b → k ≤ i

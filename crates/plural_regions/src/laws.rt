@@ -2,12 +2,12 @@
 ghost use Rattle.std.specs.Prelude.{ℕ, ◌↔◌, IsTrue};
 ghost use Rattle.plural_regions.specs.Rights.{InReads, InWrites, may_read, may_write};
 
-/// The test for reading holds exactly where some region has the word.
+/// The test for reading holds exactly if some region has the word.
 pub fn reads()
     ensures { (regions : _) (k a : ℕ) → IsTrue (may_read regions k a) ↔ InReads regions k a }
 {}
 
-/// The test for writing holds exactly where some write region has the word.
+/// The test for writing holds exactly if some write region has the word.
 pub fn writes()
     ensures { (regions : _) (k a : ℕ) → IsTrue (may_write regions k a) ↔ InWrites regions k a }
 {}

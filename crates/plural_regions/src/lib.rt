@@ -2,7 +2,7 @@
 //!
 //! Promise: `Region::contains` is membership, `Region::inside` finds the least instance that
 //! leaves the memory, and `meet` the least instances of two regions that share a word
-//! (`specs/Meeting.antt`), without going over all of them where it need not. The rights of an
+//! (`specs/Meeting.antt`), without going over all of them if it need not. The rights of an
 //! instance over a list of regions are the definitions of `specs/Rights.antt`, where the laws tie
 //! each test to "some region has the word".
 //! Stands on no other crate. `plural_core` guards loads and stores by these rights, `plural_map`

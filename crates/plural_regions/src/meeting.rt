@@ -85,7 +85,7 @@ fn candidate_apart(r: &Region, q1: u32, s: &Region, q2: u32) -> Option<u32>
     Some(low + steps as u32)
 }
 
-/// The first instance of `r` that can meet one of `s`, where a scan isn't needed: the regions are of different tasks,
+/// The first instance of `r` that can meet one of `s`, if a scan isn't needed: the regions are of different tasks,
 /// or of one task and have one stride, so that only the distance of two instances counts.
 fn candidate(r: &Region, q1: u32, s: &Region, q2: u32, same_task: bool) -> Option<u32>
     requires first_quota { q1 ≤ 16384 }

@@ -197,7 +197,7 @@ module _ {t : TextRule} {all rest : List TextLine} {n : ℕ} (s : Stage t all n 
   front_good : IsFaultless t.Breaks (front s ++ [])
   front_good = subst (IsFaultless t.Breaks) (sym (append-nil (front s))) s.faultless
 
-  -- Where no line has a text after the last section, the text has no fault.
+  -- If no line has a text after the last section, the text has no fault.
   pub past_none : (end : ℕ) → AllBlank rest → IsFaultless t.Breaks (closed all end)
   past_none end h =
       subst (IsFaultless t.Breaks) (sym (stage_closed s end))

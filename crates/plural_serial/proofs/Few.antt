@@ -21,7 +21,7 @@ use Rattle.plural_serial.proofs.Runs.{IsSoFar}
 
 -- ---- the quotas of the tasks that are done
 
--- A quota counts where its task is done.
+-- A quota counts if its task is done.
 abbrev counted : Bool → ℕ → ℕ
 counted true quota = quota
 counted false quota = 0
@@ -42,7 +42,7 @@ used_most [] i done = omega arith
 used_most (task ∷ tasks) i done =
     omega (arith, sum_by-cons (λ (n : ℕ). n) task.quota (map (λ t. t.quota) tasks), counted_most (is_among i done) task.quota, used_most tasks (i + 1) done)
 
--- With another number done, a number is among them where it was before.
+-- With another number done, a number is among them if it was before.
 among_other : (done : List ℕ) (t u : ℕ) → (t ≡ u → ⊥) → is_among u (done ++ t ∷ []) ≡ is_among u done
 among_other done t u n = among_push done t u ∙ rw (ne_eqb t u n) (or_false (is_among u done))
   where

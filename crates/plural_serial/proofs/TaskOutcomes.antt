@@ -61,7 +61,7 @@ next_within m items i limits is h =
     let e : items ≡ order_of m.tasks = is ∙ limits.ordered in
     subst (λ (us : List ℕ). get_or us i 0 < length m.tasks) (sym e) (order_within m.tasks i (subst (λ (us : List ℕ). i < length us) e h))
 
--- The predecessors of the i-th task of a map's order have outcomes where the tasks before it have.
+-- The predecessors of the i-th task of a map's order have outcomes if the tasks before it have.
 pub predecessors_there : (m : MapValue) (items : List ℕ) (outcomes : List (Option Outcome)) (i : ℕ) → IsMap m → items ≡ m.order → i < length items
     → HasOutcomes (take i items) outcomes → HasPredecessors (slice_index_or m.tasks (get_or items i 0) no_task) outcomes
 predecessors_there m items outcomes i limits is h s =

@@ -23,7 +23,7 @@ pub record LiveAlike (p : ProgramValue) (t k : ℕ) (m n : List ℕ) : Type 0 wh
 abbrev pub StoresWithin : ProgramValue → (t k : ℕ) → List ℕ → Type 0
 StoresWithin p t k m = All (λ s. may_write (task_at p t).regions k s.0 ≡ true) (life_of p t k m).stores
 
--- For each program and each of its instances: where two memories agree wherever the instance may read, its lives over
+-- For each program and each of its instances: if two memories agree wherever the instance may read, its lives over
 -- them are alike, and it stores where it may write.
 abbrev pub Footprint : Type 0
 Footprint = (p : ProgramValue) (t k : ℕ) (m n : List ℕ) → IsMap p.map → t < length p.map.tasks → k < (task_at p t).quota

@@ -4,7 +4,7 @@ use Rattle.plural_base.specs.Told.{Counted}
 use Rattle.plural_cache.specs.Cache.{CacheValue}
 use Rattle.plural_serial.specs.Cached.{KeepsCounts}
 
--- Where nothing changes, the differences stay.
+-- If nothing changes, the differences stay.
 pub counts_none : (c : CacheValue) (n : Counted) → KeepsCounts c c n n
 counts_none c n = record { read = refl; written = refl; sets = refl; ways = refl }
 

@@ -37,7 +37,7 @@ abbrev pub is_code_1 : End → Bool
 is_code_1 end.Code1 = true
 is_code_1 _ = false
 
--- The outcome of a task whose instances ended so: failed where one of them failed, else ended with the largest code.
+-- The outcome of a task whose instances ended so: failed if one of them failed, else ended with the largest code.
 abbrev pub outcome_of : List End → Outcome
 outcome_of ends =
     if list_any is_failure ends then outcome.Failed
@@ -84,7 +84,7 @@ by_decision decision.Fail p t r = with_outcome t outcome.Failed r
 by_decision decision.Skip p t r = with_outcome t outcome.Skipped r
 by_decision decision.Run p t r = with_all p t r
 
--- One task more: it is decided by the outcomes so far, and runs where the decision says so.
+-- One task more: it is decided by the outcomes so far, and runs if the decision says so.
 unfoldable pub with_task : ProgramValue → Run → (t : ℕ) → Run
 with_task p r t = by_decision (decided (task_at p t) r.outcomes) p t r
 

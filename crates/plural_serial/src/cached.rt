@@ -6,7 +6,7 @@ ghost use Rattle.plural_serial.specs.Cached.{KeepsCounts, IsCacheOver};
 use plural_cache::{Bus, Cache};
 use plural_core::DataPort;
 
-/// A cache that is lent, over a bus that is lent. A load goes to the cache, which reads the bus where it misses;
+/// A cache that is lent, over a bus that is lent. A load goes to the cache, which reads the bus if it misses;
 /// a store goes through to the bus.
 #[derive(Drop)]
 pub struct Cached<'a, B: Bus> {

@@ -87,7 +87,7 @@ fn run_task(
     Ok(outcome)
 }
 
-/// Decides task t and runs it where it is to run, and answers its outcome.
+/// Decides task t and runs it if it is to run, and answers its outcome.
 fn task_outcome(
     cache: &mut Cache,
     flat: &mut Flat,

@@ -18,7 +18,7 @@ pub(crate) fn with_end(outcome: Outcome, end: End) -> Outcome
     }
 }
 
-/// The outcomes, where each is there.
+/// The outcomes, if each is there.
 pub(crate) fn settled(alloc: Global, outcomes: &[Option<Outcome>]) -> Result<Vec<Outcome>, Memory>
     requires { All IsSome outcomes.now }
     ensures { IfOk result (λ v. map (λ o. Some o) v.items ≡ outcomes.now) }

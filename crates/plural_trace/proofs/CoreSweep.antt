@@ -141,7 +141,7 @@ swept_skip es m cores s first last none h = record {
     below : (k : ℕ) → k < first → (entry_at es k).start < s + 1 → (entry_at es k).start < s
     below k l b = let apart = none k l in omega (arith, apart)
 
--- Less is known where the first found is an earlier one.
+-- Less is known if the first found is an earlier one.
 pub swept_less : (es : List Entry) (m cores s first less : ℕ) (last : List ℕ) → less ≤ first → is_busy_at es less ≡ true → Swept es m cores s first last → Swept es m cores s less last
 swept_less es m cores s first less last le busy h = record {
   long = h.long;
@@ -260,13 +260,13 @@ swept_meets es m cores s first i last law li at lj meets h = elim (cases_lt i j)
     apart_places : i ≡ j → ⊥
     apart_places e = let a = ap (λ k. (entry_at es k).start) e in let b = known.0 in omega arith
 
--- The step where entry i starts after the end of the last entry j that started on its core.
+-- The step if entry i starts after the end of the last entry j that started on its core.
 pub step_next : (es : List Entry) (m cores first i j : ℕ) (last : List ℕ) → AreLawful es m cores → i < first → j ≡ get_or last (entry_at es i).core 0 → (j < first → (entry_at es j).end_at < (entry_at es i).start)
     → Swept es m cores (entry_at es i).start first last → Swept es m cores ((entry_at es i).start + 1) first (set last (entry_at es i).core i)
 step_next es m cores first i j last law li is free h =
     swept_next es m cores (entry_at es i).start first i last law li refl (subst (λ x. x < first → (entry_at es x).end_at < (entry_at es i).start) is free) h
 
--- The step where the two intervals meet.
+-- The step if the two intervals meet.
 pub step_meets : (es : List Entry) (m cores first i j : ℕ) (last : List ℕ) → AreLawful es m cores → i < first → j ≡ get_or last (entry_at es i).core 0 → j < first → (entry_at es i).start ≤ (entry_at es j).end_at
     → Swept es m cores (entry_at es i).start first last → Swept es m cores ((entry_at es i).start + 1) (max i j) (set last (entry_at es i).core (min i j))
 step_meets es m cores first i j last law li is lj meets h =

@@ -95,7 +95,7 @@ failed x log last rule o at v before found some is = subst (IsVerdict x log last
     here : Finds x log last rule (Some at)
     here = subst (Finds x log last rule) some found
 
--- Where each rule is passed none fails.
+-- If each rule is passed none fails.
 pub all_hold : (x : Expected) (log : LogValue) (last : List ℕ) → HoldBefore x log last 8 → NoneFails x log last
 all_hold x log last h rule = h rule (low rule)
   where

@@ -180,7 +180,7 @@ bounds_exact tasks es r ends bounds h i l = (
   ]),
 )
 
--- Where each core is one, the rule on cores is the one on intervals.
+-- If each core is one, the rule on cores is the one on intervals.
 pub cores_below : (cores : ℕ) (es : List Entry) (m : ℕ) → ((k : ℕ) (d : Entry) → k < m → (get_or es k d).core < cores) → least (breaks_cores cores es) m ≡ least (is_busy_at es) m
 cores_below cores es m own =
     least_same (breaks_cores cores es) (is_busy_at es) m (λ i lt.

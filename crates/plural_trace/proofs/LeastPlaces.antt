@@ -47,7 +47,7 @@ least_more p i m (suc d) e = ap (least p) (let s : m + suc d ≡ suc (m + d) = o
 pub least_stays : (p : ℕ → Bool) (i m n : ℕ) → m ≤ n → Some i ≡ least p m → Some i ≡ least p n
 least_stays p i m n le e = sym (least_more p i m (n - m) (sym e)) ∙ ap (least p) (let s : m + (n - m) ≡ n = omega arith in s)
 
--- Where there is no least place the test fails.
+-- If there is no least place the test fails.
 pub least_none : (p : ℕ → Bool) (i n : ℕ) → i < n → least p n ≡ None → p i ≡ false
 least_none p i n lt e = ⊎_elim (λ t. absurd (clash p i n lt t e)) (λ f. f) (cases_Bool (p i))
   where

@@ -277,7 +277,7 @@ words_legal xs last e h = ext_get_or 0 last xs e (λ i l. eqb-true (slice_index 
 
 -- ---- all seven
 
--- Where no rule fails, the log is legal.
+-- If no rule fails, the log is legal.
 pub legal_from_none : (x : Expected) (log : LogValue) (last : List ℕ) → length log.outcomes ≡ length x.outcomes → length last ≡ length x.memory → NoneFails x log last → IsLegal x log last
 legal_from_none x log last o w h = record {
   records = records_legal x.records log.entries (λ i l. refuted _ (λ b. h Records i (l, b)));
@@ -292,7 +292,7 @@ legal_from_none x log last o w h = record {
 breaks_not : {b : Bool} → b ≡ false → b ≡ true → ⊥
 breaks_not f t = true≢false (sym t ∙ f)
 
--- Where a log is legal, no rule fails.
+-- If a log is legal, no rule fails.
 none_from_legal : (x : Expected) (log : LogValue) (last : List ℕ) → IsLegal x log last → NoneFails x log last
 none_from_legal x log last h Records i f = breaks_not (records_kept x.records log.entries h.records i f.0) f.1
 none_from_legal x log last h Tickets i f = breaks_not (tickets_kept log.entries h.tickets i f.0) f.1

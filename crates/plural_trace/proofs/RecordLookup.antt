@@ -11,12 +11,12 @@ use Rattle.plural_trace.specs.Rules.{no_entry, entry_at, is_of, record_for, is_s
 
 -- ---- the rule at a place
 
--- At an entry's place the rule is broken where its record isn't recorded or its instance was there before.
+-- At an entry's place the rule is broken if its record isn't recorded or its instance was there before.
 pub record_test : (rs : List Record) (es : List Entry) (i : ℕ) → i < length es
     → breaks_records rs es i ≡ (not (is_recorded rs (entry_at es i).rec) || has_instance (entry_at es i).rec.t (entry_at es i).rec.k (take i es))
 record_test rs es i l = cond-true _ _ _ (lt-ltb i (length es) l)
 
--- After the last entry the rule is broken where an instance is missing.
+-- After the last entry the rule is broken if an instance is missing.
 pub missing_test : (rs : List Record) (es : List Entry) → breaks_records rs es (length es) ≡ lacks_instance rs es
 missing_test rs es = cond-false _ _ _ (le-ltb (length es) (length es) (omega arith))
 

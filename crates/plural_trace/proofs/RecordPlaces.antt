@@ -154,7 +154,7 @@ tells_more b rs es i p seen h long li lp e tells = λ q lq. elim (cases_eq q p) 
             absurd (other (one_place b rs q p h lq lp t k))
         by false f = refl
 
--- Where each place tells, one that no entry was seen of is missing.
+-- If each place tells, one that no entry was seen of is missing.
 lacks_when : (rs : List Record) (es : List Entry) (seen : List Bool) → length seen ≡ length rs
     → ((p : ℕ) → p < length rs → get_or seen p false ≡ has_instance (record_at rs p).t (record_at rs p).k es) → lacks_instance rs es ≡ not (list_all (λ s. s) seen)
 lacks_when [] es [] n h = refl
@@ -173,7 +173,7 @@ lacks_when (r ∷ rs) es (s ∷ ss) n h =
 pub breaks_when : (rs : List Record) (es : List Entry) (i : ℕ) → i < length es → is_recorded rs (entry_at es i).rec ≡ false → breaks_records rs es i ≡ true
 breaks_when rs es i l e = record_test rs es i l ∙ rw e refl
 
--- An entry whose record stands at a place breaks the rule where the place tells that its instance was seen.
+-- An entry whose record stands at a place breaks the rule if the place tells that its instance was seen.
 pub breaks_by : (b : ℕ → ℕ) (rs : List Record) (es : List Entry) (i p : ℕ) (seen : List Bool) → StandFrom b rs → i < length es → p < length rs
     → is_same_record (entry_at es i).rec (record_at rs p) ≡ true → Tells rs es i seen → breaks_records rs es i ≡ get_or seen p false
 breaks_by b rs es i p seen h li lp e tells =
@@ -181,7 +181,7 @@ breaks_by b rs es i p seen h li lp e tells =
     record_test rs es i li ∙ ap (λ c. not c || has_instance (entry_at es i).rec.t (entry_at es i).rec.k (take i es)) (recorded_there b rs (entry_at es i).rec p h lp e)
     ∙ (λ n. has_instance (same.t n) (same.k n) (take i es)) ∙ sym (tells p lp)
 
--- After the last entry the rule is broken where some place wasn't seen.
+-- After the last entry the rule is broken if some place wasn't seen.
 pub breaks_after : (rs : List Record) (es : List Entry) (i : ℕ) (seen : List Bool) → length seen ≡ length rs → length es ≤ i → Tells rs es i seen → breaks_records rs es (length es) ≡ not (list_all (λ s. s) seen)
 breaks_after rs es i seen long le tells =
     missing_test rs es ∙ lacks_when rs es seen long (λ p l. tells p l ∙ ap (has_instance (record_at rs p).t (record_at rs p).k) (take_all i es le))

@@ -39,7 +39,7 @@ records_within p m limits = All-map (λ (r : Record). r.t < length p.map.tasks) 
 
 -- ---- entries of recorded instances
 
--- Where rule 1 has no place, the entries are of tasks of the map.
+-- If rule 1 has no place, the entries are of tasks of the map.
 pub entries_within : (tasks : ℕ) (rs : List Record) (es : List Entry) → All (λ (r : Record). r.t < tasks) rs → least (breaks_records rs es) (length es + 1) ≡ None → All (λ (e : Entry). e.rec.t < tasks) es
 entries_within tasks rs es h e = λ i d l.
     let fine = least_none (breaks_records rs es) i (length es + 1) (omega arith) e in

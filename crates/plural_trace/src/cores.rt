@@ -9,7 +9,7 @@ use crate::entry::Entry;
 use plural_base::Memory;
 use std::alloc::Global;
 
-/// At each ticket the entry, of the first m, that starts there; m where none does.
+/// At each ticket the entry, of the first m, that starts there; m if none does.
 fn starts(alloc: Global, entries: &[Entry], m: usize) -> Result<Vec<usize>, Memory>
     requires few { length entries.now < 2 ^ 31 }
     requires m { m ≤ length entries.now }

@@ -60,7 +60,7 @@ fn all_seen(seen: &[bool]) -> bool
 }
 
 /// The first entry that is of no instance of these records, or whose record differs, or whose instance an earlier
-/// entry has; or the number of entries, where an instance is missing.
+/// entry has; or the number of entries, if an instance is missing.
 pub(crate) fn record_fault(
     alloc: Global,
     records: &[Record],

@@ -4,7 +4,7 @@ use Rattle.std.proofs.lemmas.Fmt.{decimal_digit, decimal_step, decimal_nonempty,
 use Rattle.std.proofs.lemmas.List.{drop-set}
 use Rattle.plural_bytes.proofs.text.write_decimal.Goals as goal
 
--- Ten places hold the digits of a number: one is left where some are still to be written.
+-- Ten places hold the digits of a number: one is left if some are still to be written.
 place_left : (text : List ℕ) (at rest n : ℕ) → length text ≡ 10 → at ≤ 10 → rest < 2 ^ 32 → n < 2 ^ 32 → decimal rest ++ drop at text ≡ decimal n → 1 ≤ at
 place_left text at rest n long inside small whole written =
     omega (arith, decimal_nonempty rest (omega arith), length-decimal-le 10 n (omega arith) (omega arith) (omega arith), simp (length-append, length-drop) at (ap length written))
