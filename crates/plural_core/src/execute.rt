@@ -1,5 +1,5 @@
 //! What an instruction does to the registers and the pc.
-ghost use Rattle.std.specs.Prelude.{◌≡◌, slice_index, List, ℕ, []};
+ghost use Rattle.std.specs.Prelude.{◌≡◌, slice_index, []};
 ghost use Rattle.plural_core.specs.Arithmetic.{word, sum_of};
 ghost use Rattle.plural_core.specs.Act.{get, put, address_of, jump, branch};
 ghost use Rattle.plural_core.specs.Turn.{does, place_of};

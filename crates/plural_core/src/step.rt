@@ -1,11 +1,11 @@
 //! One instruction, by its mnemonic.
-ghost use Rattle.std.specs.Prelude.{◌≡◌, ℕ, ◌≤◌, ◌<◌, ◌-◌, ◌*◌, ◌/◌, ◌%◌, [], true, slice_index, List, map};
+ghost use Rattle.std.specs.Prelude.{◌≡◌, ℕ, ◌≤◌, ◌<◌, ◌-◌, ◌/◌, ◌%◌, [], true, slice_index, map};
 ghost use Rattle.plural_regions.specs.Rights.{may_read};
 ghost use Rattle.plural_base.specs.Told.{Foresees};
 ghost use Rattle.plural_isa.specs.FlatInstrs.{flat_of};
 ghost use Rattle.plural_core.specs.Turn.{does, place_of, turn_of};
 ghost use Rattle.plural_core.specs.Execution.{effect_of};
-ghost use Rattle.plural_core.specs.Progress.{live, counted, core_of, end_of};
+ghost use Rattle.plural_core.specs.Progress.{live, counted};
 ghost use Rattle.plural_core.specs.Recent.{IsRecent};
 ghost use Rattle.plural_core.specs.Port.{Makes};
 
