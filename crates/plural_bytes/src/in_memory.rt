@@ -82,7 +82,8 @@ impl Model for MemSource {
       faults = s.calls.faults;
     } };
 
-    ghost invariant = { λ s. (s.at ≤ vec_len s.bytes) × (0 < s.piece) × (s.calls.fail.items ≡ [] → s.calls.faults ≡ 0) };
+    ghost invariant = { λ s. (s.at ≤ vec_len s.bytes) × (0 < s.piece)
+        × (s.calls.fail.items ≡ [] → s.calls.faults ≡ 0) };
 }
 
 impl MemSource {
