@@ -1,6 +1,6 @@
 use Rattle.plural_bundle.proofs.BundleParts.{a_bundle_has_parts}
 use Rattle.plural_bundle.proofs.laws.a_bundle_has_parts.Goals as goal
 
--- The answer meets the contract.
+-- A bundle is such parts.
 pub returns : goal.returns
 returns c = a_bundle_has_parts

@@ -1,6 +1,6 @@
 use Rattle.plural_bundle.proofs.BundleParts.{parts_make_a_bundle}
 use Rattle.plural_bundle.proofs.laws.parts_make_a_bundle.Goals as goal
 
--- The answer meets the contract.
+-- Parts without a fault, one after the other, are a bundle.
 pub returns : goal.returns
 returns c = parts_make_a_bundle

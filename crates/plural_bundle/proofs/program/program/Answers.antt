@@ -4,7 +4,7 @@ use Rattle.plural_bundle.specs.Value.{pc_of}
 use Rattle.plural_bundle.proofs.ValueOfBundle.{is_program}
 use Rattle.plural_bundle.proofs.program.program.Goals as goal
 
--- The call of `of` has what it requires.
+-- Each task has one entry, a multiple of 4.
 pub of-requires : goal.of-requires
 of-requires c =
     let labels : c.as_slice.result.now ≡ c.args.object.1 = cc in

@@ -14,19 +14,19 @@ use Rattle.plural_bundle.proofs.ValueOfBundle.{AreAligned, labels_aligned}
 use Rattle.plural_image.proofs.ImageLength.{image_length}
 use Rattle.plural_bundle.proofs.read.read_bundle.Goals as goal
 
--- The answer at `in_err-begun` meets the clause `answer`.
+-- The first line has a fault.
 pub returns-in_err-begun-clause-answer : goal.returns-in_err-begun-clause-answer
 returns-in_err-begun-clause-answer c =
     answered c.from_residual-in_err-begun.result _ _ c.in_err-begun.field-0.0 c.from_residual-in_err-begun.ensures.1
     (first_bad (text_lines c.args.input.now) _ c.args.end _ c.in_err-begun.ensures.answer)
 
--- The answer at `in_err-after_header` meets the clause `answer`.
+-- Another line stands in the place of the header of the map.
 pub returns-in_err-after_header-clause-answer : goal.returns-in_err-after_header-clause-answer
 returns-in_err-after_header-clause-answer c =
     answered c.from_residual-in_err-after_header.result _ _ c.in_err-after_header.field-0.0 c.from_residual-in_err-after_header.ensures.1
     (no_map (text_lines c.args.input.now) c.in_ok-begun.ensures.answer c.args.end _ c.in_err-after_header.ensures.answer)
 
--- The answer at `in_err-tasks` meets the clause `answer`.
+-- The map has a fault: its first is that of the bundle.
 pub returns-in_err-tasks-clause-answer : goal.returns-in_err-tasks-clause-answer
 returns-in_err-tasks-clause-answer c =
     let names = c.deref.ensures.value ∙ c.in_ok-labels.ensures ∙ ap names_of c.section_of.ensures.section in
@@ -35,7 +35,7 @@ returns-in_err-tasks-clause-answer c =
     (error_passed map_fault c.parse.result c.in_err-tasks.field-0.0 _ _ (Faults (text_lines c.args.input.now) (text_lines c.args.lines.now) c.args.end) c.parse.ensures c.in_err-tasks.ensures
     (λ e f. map_faults m c.args.end c.first_number-closing.result e c.first_number-closing.ensures f))
 
--- The answer at `in_err-after_header-2` meets the clause `answer`.
+-- Another line stands in the place of the header of the kernels.
 pub returns-in_err-after_header-2-clause-answer : goal.returns-in_err-after_header-2-clause-answer
 returns-in_err-after_header-2-clause-answer c =
     let names = c.deref.ensures.value ∙ c.in_ok-labels.ensures ∙ ap names_of c.section_of.ensures.section in
@@ -44,7 +44,7 @@ returns-in_err-after_header-2-clause-answer c =
     answered c.from_residual-in_err-after_header-2.result _ _ c.in_err-after_header-2.field-0.0 c.from_residual-in_err-after_header-2.ensures.1
     (kernels_missing m c.args.end c.first_number-closing.result tasks.0 c.in_err-after_header-2.field-0.0 c.in_err-after_header-2.ensures.answer)
 
--- The answer at `in_err-object` meets the clause `answer`.
+-- The kernel lines have a fault: their first is that of the bundle.
 pub returns-in_err-object-clause-answer : goal.returns-in_err-object-clause-answer
 returns-in_err-object-clause-answer c =
     let names = c.deref.ensures.value ∙ c.in_ok-labels.ensures ∙ ap names_of c.section_of.ensures.section in
@@ -55,7 +55,7 @@ returns-in_err-object-clause-answer c =
     (error_passed kernel_fault c.assemble.result c.in_err-object.field-0.0 _ _ (Faults (text_lines c.args.input.now) (text_lines c.args.lines.now) c.args.end) c.assemble.ensures c.in_err-object.ensures
     (λ e f. kernels_faults k c.args.end e f))
 
--- The answer at `in_err-after_header-3` meets the clause `answer`.
+-- Another line stands in the place of the header of the image.
 pub returns-in_err-after_header-3-clause-answer : goal.returns-in_err-after_header-3-clause-answer
 returns-in_err-after_header-3-clause-answer c =
     let names = c.deref.ensures.value ∙ c.in_ok-labels.ensures ∙ ap names_of c.section_of.ensures.section in
@@ -66,7 +66,7 @@ returns-in_err-after_header-3-clause-answer c =
     answered c.from_residual-in_err-after_header-3.result _ _ c.in_err-after_header-3.field-0.0 c.from_residual-in_err-after_header-3.ensures.1
     (image_missing k c.args.end object.0 c.in_err-after_header-3.field-0.0 c.in_err-after_header-3.ensures.answer)
 
--- The answer at `in_err-words` meets the clause `answer`.
+-- The image has a fault: its first is that of the bundle.
 pub returns-in_err-words-clause-answer : goal.returns-in_err-words-clause-answer
 returns-in_err-words-clause-answer c =
     let names = c.deref.ensures.value ∙ c.in_ok-labels.ensures ∙ ap names_of c.section_of.ensures.section in
@@ -80,7 +80,7 @@ returns-in_err-words-clause-answer c =
     (error_passed image_fault c.read_image.result c.in_err-words.field-0.0 _ _ (Faults (text_lines c.args.input.now) (text_lines c.args.lines.now) c.args.end) c.read_image.ensures c.in_err-words.ensures
     (λ e f. image_faults i c.args.end c.words.result w e f))
 
--- The answer at `in_err-after_header-4` meets the clause `answer`.
+-- Another line stands in the place of the header of the end.
 pub returns-in_err-after_header-4-clause-answer : goal.returns-in_err-after_header-4-clause-answer
 returns-in_err-after_header-4-clause-answer c =
     let names = c.deref.ensures.value ∙ c.in_ok-labels.ensures ∙ ap names_of c.section_of.ensures.section in
@@ -94,7 +94,7 @@ returns-in_err-after_header-4-clause-answer c =
     answered c.from_residual-in_err-after_header-4.result _ _ c.in_err-after_header-4.field-0.0 c.from_residual-in_err-after_header-4.ensures.1
     (end_missing i c.args.end c.words.result w words.0 c.in_err-after_header-4.field-0.0 c.in_err-after_header-4.ensures.answer)
 
--- The answer at `in_err-nothing_after` meets the clause `answer`.
+-- A line with a text stands after the end.
 pub returns-in_err-nothing_after-clause-answer : goal.returns-in_err-nothing_after-clause-answer
 returns-in_err-nothing_after-clause-answer c =
     let names = c.deref.ensures.value ∙ c.in_ok-labels.ensures ∙ ap names_of c.section_of.ensures.section in
@@ -108,11 +108,11 @@ returns-in_err-nothing_after-clause-answer c =
     answered c.from_residual-in_err-nothing_after.result _ _ c.in_err-nothing_after.field-0.0 c.from_residual-in_err-nothing_after.ensures.1
     (left_faults i c.args.end c.words.result w words.0 c.in_ok-after_header-4.ensures.answer c.in_err-nothing_after.field-0.0 c.in_err-nothing_after.ensures)
 
--- The call of `program` has what it requires.
+-- The labels of the kernel lines have pcs that are multiples of 4.
 pub program-requires : goal.program-requires
 program-requires c = subst AreAligned (sym (value_passed _ _ _ _ c.assemble.ensures c.in_ok-object.ensures).2) (labels_aligned (text_lines c.next_section-kernels.result.lines.now))
 
--- The answer meets the clause `answer`.
+-- All lines were read: they are a bundle, and spell its program and its image.
 pub returns-clause-answer : goal.returns-clause-answer
 returns-clause-answer c =
     let names = c.deref.ensures.value ∙ c.in_ok-labels.ensures ∙ ap names_of c.section_of.ensures.section in
@@ -127,21 +127,21 @@ returns-clause-answer c =
       value_is i c.words.result _ _ _ _ _ c.words.ensures.value tasks.1 object.1 object.2 c.in_ok-program.ensures.value words.1,
     )
 
--- The answer meets the clause `image`.
+-- The image has the words of the map.
 pub returns-clause-image : goal.returns-clause-image
 returns-clause-image c =
     let words = value_passed _ _ _ _ c.read_image.ensures c.in_ok-words.ensures in
     let n = ap length words.1 ∙ image_length c.words.result _ words.0 ∙ c.words.ensures.value in
     n ∙ sym (ap (λ (p : ProgramValue). p.map.words) c.in_ok-program.ensures.value)
 
--- The answer meets the clause `whole`.
+-- They are whole rows of eight.
 pub returns-clause-whole : goal.returns-clause-whole
 returns-clause-whole c =
     let words = value_passed _ _ _ _ c.read_image.ensures c.in_ok-words.ensures in
     let n = ap length words.1 ∙ image_length c.words.result _ words.0 ∙ c.words.ensures.value in
     ap (λ (n : ℕ). n % 8) n ∙ c.words.ensures.limits.words_whole
 
--- The answer meets the clause `small`.
+-- They are at most 1,048,576.
 pub returns-clause-small : goal.returns-clause-small
 returns-clause-small c =
     let words = value_passed _ _ _ _ c.read_image.ensures c.in_ok-words.ensures in

@@ -6,11 +6,11 @@ use Rattle.plural_cli.specs.Reading.{IsReading}
 use Rattle.plural_cli.proofs.LineCounts.{length-pieces}
 use Rattle.plural_cli.proofs.reading.read.Goals as goal
 
--- The value of `line_count` stays in its type.
+-- The number of the line after the last fits a u32.
 pub overflow_add-line_count : goal.overflow_add-line_count
 overflow_add-line_count c = omega (arith, c.requires, length-pieces c.args.bytes.now, c.line_count.ensures)
 
--- The answer meets the contract.
+-- What was read of the content lines is what was read of the input.
 pub returns : goal.returns
 returns c =
     let lines = ap text_lines c.as_slice-lines.ensures.value ∙ c.in_ok-lines.ensures in

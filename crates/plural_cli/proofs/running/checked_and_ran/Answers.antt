@@ -5,7 +5,7 @@ use Rattle.plural_crew.specs.Clashes.{IsAccepted}
 use Rattle.plural_bundle.specs.Value.{BundleValue}
 use Rattle.plural_cli.proofs.running.checked_and_ran.Goals as goal
 
--- The answer at `in-None` meets the clause `answer`.
+-- The map has no clash: it is run.
 pub returns-in-None-clause-answer : goal.returns-in-None-clause-answer
 returns-in-None-clause-answer c =
     let accepted = rw c.in-None.is at c.in_ok-answer.ensures in

@@ -4,7 +4,7 @@ use Rattle.plural_bundle.specs.Value.{BundleValue}
 use Rattle.plural_cli.specs.Run.{IsRunOf}
 use Rattle.plural_cli.proofs.running.run_answer.Goals as goal
 
--- The answer at `in-Whole` meets the clause `answer`.
+-- The bundle was read: its run or its first clash is told.
 pub returns-in-Whole-clause-answer : goal.returns-in-Whole-clause-answer
 returns-in-Whole-clause-answer c =
     let whole = rw c.in-Whole.is at c.in_ok-answer.ensures in

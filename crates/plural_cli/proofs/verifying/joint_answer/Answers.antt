@@ -8,7 +8,7 @@ use Rattle.plural_cli.specs.Verify.{IsOutputAnswer, IsJointAnswer}
 use Rattle.plural_cli.proofs.JointLines.{refused_in_bundle, answered_whole}
 use Rattle.plural_cli.proofs.verifying.joint_answer.Goals as goal
 
--- The answer at `in-Faulty` meets the clause `answer`.
+-- The bundle's lines have a fault: the first is told.
 pub returns-in-Faulty-clause-answer : goal.returns-in-Faulty-clause-answer
 returns-in-Faulty-clause-answer c =
     let all = text_lines c.args.lines.now in
@@ -16,7 +16,7 @@ returns-in-Faulty-clause-answer c =
     refused_in_bundle all c.args.end c.in-Faulty.answer.status c.in-Faulty.answer.text.items
     (subst (λ (ls : List TextLine). IsFaulty all ls c.args.end c.in-Faulty.answer.status c.in-Faulty.answer.text.items) c.split_parts-parts.ensures.bundle faulty)
 
--- The answer at `in-Whole` meets the clause `answer`.
+-- The bundle was read: the answer to the output after it is the answer to all lines.
 pub returns-in-Whole-clause-answer : goal.returns-in-Whole-clause-answer
 returns-in-Whole-clause-answer c =
     let all = text_lines c.args.lines.now in

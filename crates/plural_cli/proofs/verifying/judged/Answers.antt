@@ -5,7 +5,7 @@ use Rattle.plural_trace.specs.declared.entry.Entry.{Entry}
 use Rattle.plural_cli.specs.Verify.{verdict_text, IsJudged}
 use Rattle.plural_cli.proofs.verifying.judged.Goals as goal
 
--- The answer meets the clause `answer`.
+-- The verdict is told.
 pub returns-clause-answer : goal.returns-clause-answer
 returns-clause-answer c =
     let verdict = c.in_ok-verdict.verdict in

@@ -11,7 +11,7 @@ use Rattle.plural_output.specs.Answer.{IsOutput}
 use Rattle.plural_cli.specs.Verify.{IsVerdictOn}
 use Rattle.plural_cli.proofs.verifying.output_answer.Goals as goal
 
--- The answer at `in-Ok` meets the clause `answer`.
+-- The output was read: it is judged, or the first clash is told.
 pub returns-in-Ok-clause-answer : goal.returns-in-Ok-clause-answer
 returns-in-Ok-clause-answer c =
     let own : c.map.result.now ≡ c.args.bundle.now.program.map = c.map.ensures ∙ ap (λ (b : BundleValue). b.program.map) c.bundle.view_is in
@@ -19,7 +19,7 @@ returns-in-Ok-clause-answer c =
     subst (λ (m : MapValue). IsOutput m.tasks m.words (text_lines c.args.lines.now) c.args.end × (c.in-Ok.output ≡ output_of m.tasks m.words (text_lines c.args.lines.now))) own c.in-Ok.ensures.answer in
     IfOk-weaker _ _ _ (λ a p. inl (record { output = whole.0; answer = subst (λ (o : OutputValue). IsVerdictOn c.args.bundle.now o a.status a.text.items) whole.1 p })) c.checked_and_judged.ensures.answer
 
--- The answer at `in-Err-At` meets the clause `answer`.
+-- The output has a fault: the first is told.
 pub returns-in-Err-At-clause-answer : goal.returns-in-Err-At-clause-answer
 returns-in-Err-At-clause-answer c =
     let own : c.map.result.now ≡ c.args.bundle.now.program.map = c.map.ensures ∙ ap (λ (b : BundleValue). b.program.map) c.bundle.view_is in

@@ -6,11 +6,11 @@ use Rattle.plural_cli.specs.Verify.{IsJointAnswer}
 use Rattle.plural_cli.proofs.LineCounts.{length-pieces}
 use Rattle.plural_cli.proofs.verifying.verify_answer.Goals as goal
 
--- The value of `line_count` stays in its type.
+-- The number of the line after the last fits a u32.
 pub overflow_add-line_count : goal.overflow_add-line_count
 overflow_add-line_count c = omega (arith, c.requires, length-pieces c.args.bytes.now, c.line_count.ensures)
 
--- The answer meets the clause `answer`.
+-- The answer to the content lines is that to the input.
 pub returns-clause-answer : goal.returns-clause-answer
 returns-clause-answer c =
     let lines = ap text_lines c.deref.ensures.value ∙ c.in_ok-lines.ensures in

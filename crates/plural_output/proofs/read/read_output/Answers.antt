@@ -8,7 +8,7 @@ use Rattle.plural_output.specs.Answer.{Faults}
 use Rattle.plural_output.proofs.ReadOutput.{at_log, at_image, log_faults, image_missing, image_faults, end_missing, left_faults, is_output, value_is}
 use Rattle.plural_output.proofs.read.read_output.Goals as goal
 
--- The first fault of the log's lines is the output's.
+-- The log has a fault: its first is that of the output.
 pub returns-in_err-log-clause-answer : goal.returns-in_err-log-clause-answer
 returns-in_err-log-clause-answer c =
     let a = at_log c.next_section-section.ensures.lines c.next_section-section.ensures.whole c.next_section-section.ensures.closed in
@@ -16,7 +16,7 @@ returns-in_err-log-clause-answer c =
     (error_passed log_fault c.read_log.result c.in_err-log.field-0.0 _ _ (Faults c.args.map.now.tasks c.args.map.now.words (text_lines c.args.lines.now) c.args.end) c.read_log.ensures.answer c.in_err-log.ensures
     (λ e f. log_faults c.args.map.now.tasks c.args.map.now.words a c.args.end c.first_number-closing.result e c.first_number-closing.ensures f))
 
--- So is a header that is missing after them.
+-- Another line stands in the place of the header of the image.
 pub returns-in_err-after_header-clause-answer : goal.returns-in_err-after_header-clause-answer
 returns-in_err-after_header-clause-answer c =
     let a = at_log c.next_section-section.ensures.lines c.next_section-section.ensures.whole c.next_section-section.ensures.closed in
@@ -24,7 +24,7 @@ returns-in_err-after_header-clause-answer c =
     answered c.from_residual-in_err-after_header.result _ _ c.in_err-after_header.field-0.0 c.from_residual-in_err-after_header.ensures.1
     (image_missing c.args.map.now.tasks c.args.map.now.words a c.args.end c.first_number-closing.result log.0 c.in_err-after_header.field-0.0 c.in_err-after_header.ensures.answer)
 
--- So is the first fault of the image's lines.
+-- The image has a fault: its first is that of the output.
 pub returns-in_err-image-clause-answer : goal.returns-in_err-image-clause-answer
 returns-in_err-image-clause-answer c =
     let a = at_log c.next_section-section.ensures.lines c.next_section-section.ensures.whole c.next_section-section.ensures.closed in
@@ -34,7 +34,7 @@ returns-in_err-image-clause-answer c =
     (error_passed image_fault c.read_image.result c.in_err-image.field-0.0 _ _ (Faults c.args.map.now.tasks c.args.map.now.words (text_lines c.args.lines.now) c.args.end) c.read_image.ensures c.in_err-image.ensures
     (λ e f. image_faults c.args.map.now.words i c.args.end c.words.result c.words.ensures.value e f))
 
--- So is an end that is missing.
+-- Another line stands in the place of the header of the end.
 pub returns-in_err-rest-clause-answer : goal.returns-in_err-rest-clause-answer
 returns-in_err-rest-clause-answer c =
     let a = at_log c.next_section-section.ensures.lines c.next_section-section.ensures.whole c.next_section-section.ensures.closed in
@@ -44,7 +44,7 @@ returns-in_err-rest-clause-answer c =
     answered c.from_residual-in_err-rest.result _ _ c.in_err-rest.field-0.0 c.from_residual-in_err-rest.ensures.1
     (end_missing c.args.map.now.words i c.args.end c.words.result c.words.ensures.value image.0 c.in_err-rest.field-0.0 c.in_err-rest.ensures.answer)
 
--- So is a line with a text after the end.
+-- A line with a text stands after the end.
 pub returns-in_err-nothing_after-clause-answer : goal.returns-in_err-nothing_after-clause-answer
 returns-in_err-nothing_after-clause-answer c =
     let a = at_log c.next_section-section.ensures.lines c.next_section-section.ensures.whole c.next_section-section.ensures.closed in
@@ -54,7 +54,7 @@ returns-in_err-nothing_after-clause-answer c =
     answered c.from_residual-in_err-nothing_after.result _ _ c.in_err-nothing_after.field-0.0 c.from_residual-in_err-nothing_after.ensures.1
     (left_faults c.args.map.now.words i c.args.end c.words.result c.words.ensures.value image.0 c.in_ok-rest.ensures.answer c.in_err-nothing_after.field-0.0 c.in_err-nothing_after.ensures)
 
--- An output without a fault has the log and the image of its lines.
+-- All lines were read: they are an output, and spell its log and its image.
 pub returns-clause-answer : goal.returns-clause-answer
 returns-clause-answer c =
     let a = at_log c.next_section-section.ensures.lines c.next_section-section.ensures.whole c.next_section-section.ensures.closed in
@@ -65,7 +65,7 @@ returns-clause-answer c =
       value_is c.args.map.now.words i c.words.result _ _ c.words.ensures.value log.1 image.1,
     )
 
--- The image has as many words as it was asked for.
+-- The image has the words of the map.
 pub returns-clause-image : goal.returns-clause-image
 returns-clause-image c =
     let image = value_passed _ _ _ _ c.read_image.ensures c.in_ok-image.ensures in
