@@ -5,7 +5,6 @@ use Rattle.std.proofs.lemmas.List.{append-nil, length-append}
 use Rattle.plural_bytes.specs.Lines.{TextLine, pieces, content_from}
 use Rattle.plural_bytes.proofs.Tokens.{is_token, joined, tokens_joined, line_next}
 use Rattle.plural_map_text.specs.declared.line.MapLine.{MapLine}
-use Rattle.plural_map_text.specs.declared.line.MapLine.TheVariants as line
 use Rattle.plural_map_text.specs.Shape.{shape, shape_of}
 use Rattle.plural_map_text.specs.Parts.{Parts, with_line}
 use Rattle.plural_map_text.proofs.ReadLines.{Reads, Passes, reads_push}
