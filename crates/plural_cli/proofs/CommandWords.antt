@@ -1,5 +1,5 @@
 -- Reading arguments one after another, and arguments that are there twice, which name no command.
-use Rattle.std.proofs.Common.{ℕ, ◌≡◌, ◌≤◌, ◌⊎◌, inl, inr, Bool, true, false, Some, None, Option, List, [], ◌∷◌, length, map, take, drop, get_or, ◌-◌, refl, sym, ap, ◌∙◌, subst, arith}
+use Rattle.std.proofs.Common.{ℕ, ◌≡◌, ◌≤◌, ◌⊎◌, inl, inr, Bool, true, false, Some, None, Option, List, [], ◌∷◌, length, map, take, drop, get_or, ◌-◌, refl, sym, ap, ◌∙◌, arith}
 use Rattle.std.specs.Prelude.{if◌then◌else◌, codes, bytes_eq, IsSome}
 use Rattle.std.proofs.lemmas.List.{take_rest}
 use Rattle.plural_cli.specs.Arguments.{Arguments, arguments}

@@ -1,7 +1,7 @@
 -- The faults of a verifier's input by those of its bundle and of its output.
 use Rattle.std.proofs.Common.{◌≡◌, ℕ, ◌+◌, Bool, true, false, ◌||◌, List, [], ◌∷◌, ◌++◌, length, take, refl, ap, sym, subst, ◌∙◌, append_assoc, append-nil, take-append-drop, arith, ◌⊎◌, inl, inr}
-use Rattle.std.specs.Prelude.{codes, bytes_eq}
-use Rattle.std.specs.List.{AllByRecursion, list_any, position_or_len, after_first}
+use Rattle.std.specs.Prelude.{codes}
+use Rattle.std.specs.List.{list_any, position_or_len, after_first}
 use Rattle.std.proofs.lemmas.Slice.Eq.{bytes_eq-Decides}
 use Rattle.std.proofs.lemmas.List.{take_at, take_all, length_push}
 use Rattle.plural_base.proofs.ListTests.{HasNone, all_front, all_back, all_append, none_found, position_none, place_at, after_at}

@@ -1,13 +1,8 @@
 -- How many lines a text has.
-use Rattle.std.proofs.Common.{◌≡◌, ℕ, ◌+◌, ◌≤◌, Bool, true, false, List, [], ◌∷◌, map, length, refl, ap, arith}
-use Rattle.std.specs.Prelude.{filter, not, if◌then◌else◌}
-use Rattle.std.specs.List.{enumerate_from, onto_first}
-use Rattle.std.proofs.lemmas.List.{length-map}
-use Rattle.std.proofs.lemmas.List.Filters.{length-filter_both}
-use Rattle.std.proofs.lemmas.List.FromFn.{length-enumerate_from}
-use Rattle.plural_bytes.specs.declared.lines.Line.{Line}
-use Rattle.plural_bytes.specs.Lines.{TextLine, pieces, content, content_lines, has_text, is_line_end}
-use Rattle.plural_bytes.specs.Spelled.{text_line, text_lines}
+use Rattle.std.proofs.Common.{ℕ, ◌+◌, ◌≤◌, Bool, true, false, List, [], ◌∷◌, length, arith}
+use Rattle.std.specs.Prelude.{if◌then◌else◌}
+use Rattle.std.specs.List.{onto_first}
+use Rattle.plural_bytes.specs.Lines.{pieces, is_line_end}
 
 length-onto_first : (c : ℕ) (ps : List (List ℕ)) → length (onto_first c ps) ≤ length ps + 1
 length-onto_first c [] = omega arith

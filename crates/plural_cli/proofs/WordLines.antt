@@ -1,5 +1,5 @@
 -- Reading words one after the other.
-use Rattle.std.proofs.Common.{◌≡◌, ℕ, ◌+◌, ◌<◌, ◌≤◌, Some, None, List, [], ◌∷◌, ◌++◌, length, take, get_or, refl, ap, sym, ◌∙◌, arith}
+use Rattle.std.proofs.Common.{◌≡◌, ℕ, ◌+◌, ◌<◌, ◌≤◌, Some, None, List, [], ◌∷◌, ◌++◌, length, take, get_or, ap, sym, ◌∙◌, arith}
 use Rattle.std.specs.Prelude.{flat_map}
 use Rattle.std.specs.Option.{option_map_or}
 use Rattle.std.proofs.lemmas.List.{length-append, flat_map_more, map_more}
@@ -7,7 +7,7 @@ use Rattle.plural_bytes.specs.Lines.{TextLine}
 use Rattle.plural_bytes.specs.declared.lines.Line.{Line}
 use Rattle.plural_bytes.specs.Spelled.{text_line, text_lines}
 use Rattle.plural_sections.specs.Faults.{IsFaultless, IsFirstFault}
-use Rattle.plural_sections.proofs.FirstFaults.{faultless_nil, first_fault, faultless_more}
+use Rattle.plural_sections.proofs.FirstFaults.{first_fault, faultless_more}
 use Rattle.plural_sections.specs.Numbers.{word_token}
 use Rattle.plural_asm.specs.Rules.{rank}
 use Rattle.plural_asm.specs.declared.object.AsmKind.{AsmKind}

@@ -3,7 +3,6 @@ use Rattle.std.specs.Prelude.{ℕ, ◌≡◌, ◌⊎◌, List, [], ◌∷◌, �
 use Rattle.std.specs.Fmt.{decimal}
 use Rattle.plural_map.specs.Value.{TaskValue}
 use Rattle.plural_map.specs.Lookup.{name_at}
-use Rattle.plural_bundle.specs.Value.{BundleValue}
 use Rattle.plural_crew.specs.Clashes.{IsAccepted, IsFirstClash}
 use Rattle.plural_cli.specs.declared.answer.Answer.{Answer}
 use Rattle.plural_cli.specs.Lines.{ToBundle}

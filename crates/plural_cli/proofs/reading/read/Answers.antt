@@ -1,4 +1,4 @@
-use Rattle.std.proofs.Common.{ℕ, ◌+◌, ap, ◌∙◌, subst, List, length, IfOk, arith}
+use Rattle.std.proofs.Common.{ℕ, ◌+◌, ap, ◌∙◌, subst, List, IfOk, arith}
 use Rattle.plural_bytes.specs.Lines.{TextLine}
 use Rattle.plural_bytes.specs.Spelled.{text_lines}
 use Rattle.plural_cli.specs.Lines.{line_after}

@@ -1,4 +1,4 @@
-use Rattle.std.proofs.Common.{inl, subst, ap, sym, ◌∙◌}
+use Rattle.std.proofs.Common.{inl, subst, ap, ◌∙◌}
 use Rattle.std.proofs.lemmas.Result.{IfOk-weaker}
 use Rattle.plural_map.specs.Value.{MapValue}
 use Rattle.plural_crew.specs.Clashes.{IsAccepted}
