@@ -1,0 +1,10 @@
+pub mod Sums
+pub mod Duties
+pub mod Parts
+pub mod Instances
+pub mod Edges
+pub mod Decisions
+pub mod Views
+pub mod SoundViews
+pub mod Openings
+pub mod AllTold

@@ -1,0 +1,4 @@
+pub mod Duties
+pub mod Counters
+pub mod Steps
+pub mod Laws
