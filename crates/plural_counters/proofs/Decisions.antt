@@ -65,18 +65,18 @@ module _ (g : TaskGraph) (c : Counters) (l : List Duty) (u : ℕ) (r : IsCounted
 
   -- It is to be armed.
   run_keeps : decision_by g u ≡ decision.Run → Keeps g l (Decide u ∷ []) (Arm u ∷ []) c
-  run_keeps run m d trade s =
+  run_keeps run m d step s =
       let grows = grows_same g c d r.graph s in
       record {
         graph = r.graph;
-        phase = part.phase_kept g c d l m _ _ trade r (λ x h. omega (arith, ap sign (s.open_deps x h), ap (λ y. running y (d.left x)) (s.alloc x h), ap (λ y. running (c.alloc x) y) (s.left x h)));
-        unarmed = part.unarmed_kept g c d l m _ _ trade r (λ x h. omega (arith, ap sign (s.open_deps x h), ap sign (s.alloc x h)));
-        pending = part.pending_kept g c d l m _ _ trade r (λ x k h i. omega (arith, ap sign (s.done x k h i)));
-        left = part.left_kept g c d l m _ _ trade r (λ x h. omega (arith, same_count g c d x (λ k i. s.done x k h i), s.left x h));
-        flags = part.flags_kept g c d l m _ _ trade r s.flags (λ x k h i. omega (arith, ap sign (s.done x k h i)));
-        open_deps = part.open_kept g c d l m _ _ trade r s.open_deps (λ z x. refl);
-        state = part.state_kept g c d l m _ _ trade r s.state (λ z x. refl);
-        fits = part.fits_kept g c d l m _ _ trade r grows (all_one (Fits g d) (Arm u) (
+        phase = part.phase_kept g c d l m _ _ step r (λ x h. omega (arith, ap sign (s.open_deps x h), ap (λ y. running y (d.left x)) (s.alloc x h), ap (λ y. running (c.alloc x) y) (s.left x h)));
+        unarmed = part.unarmed_kept g c d l m _ _ step r (λ x h. omega (arith, ap sign (s.open_deps x h), ap sign (s.alloc x h)));
+        pending = part.pending_kept g c d l m _ _ step r (λ x k h i. omega (arith, ap sign (s.done x k h i)));
+        left = part.left_kept g c d l m _ _ step r (λ x h. omega (arith, same_count g c d x (λ k i. s.done x k h i), s.left x h));
+        flags = part.flags_kept g c d l m _ _ step r s.flags (λ x k h i. omega (arith, ap sign (s.done x k h i)));
+        open_deps = part.open_kept g c d l m _ _ step r s.open_deps (λ z x. refl);
+        state = part.state_kept g c d l m _ _ step r s.state (λ z x. refl);
+        fits = part.fits_kept g c d l m _ _ step r grows (all_one (Fits g d) (Arm u) (
           small,
           record {
             runs = λ k h. r.graph.runs u k small run h;
@@ -108,27 +108,27 @@ load_state g c l u r there =
 -- ---- armed
 
 arm_keeps : (g : TaskGraph) (c : Counters) (l : List Duty) (t : ℕ) → IsCounted g c l → t < g.tasks → c.alloc t ≡ 0 → ((k : ℕ) → k < g.quota t → c.done t k ≡ 0) → Keeps g l (Arm t ∷ []) [] (with_alloc c t 1)
-arm_keeps g c l t r small was undone m d trade s =
+arm_keeps g c l t r small was undone m d step s =
     let now : d.alloc t ≡ 1 = s.alloc t small ∙ set_here c.alloc t 1 t refl in
     let else : (x : ℕ) → x < g.tasks → x ≢ t → d.alloc x ≡ c.alloc x = λ x h ne. s.alloc x h ∙ set_else c.alloc t 1 x ne in
     let none : sum_below (λ k. sign (c.done t k)) (g.quota t) ≡ 0 = below_none (λ k. sign (c.done t k)) (g.quota t) (λ k h. sign_none (c.done t k) (undone k h)) in
     let some_left : 1 ≤ c.left t = omega (arith, none, r.left t small, r.graph.quota_some t small) in
     record {
       graph = r.graph;
-      phase = part.phase_kept g c d l m _ _ trade r (λ x h. dite (ℕ_discrete x t)
+      phase = part.phase_kept g c d l m _ _ step r (λ x h. dite (ℕ_discrete x t)
           (λ e. subst (λ (y : ℕ). sign (d.open_deps y) + 0 + running (d.alloc y) (d.left y) ≡ sign (c.open_deps y) + sum_over (phase_of y) (Arm t ∷ []) + running (c.alloc y) (c.left y)) (sym e)
           (omega (arith, ap sign (s.open_deps t small), one_same t t refl, mask_shut (c.alloc t) (sign (c.left t)) was, mask_open (d.alloc t) (sign (d.left t)) (omega (arith, now)), sign_some (d.left t) (omega (arith, s.left t small, some_left)))))
           (λ ne. omega (arith, ap sign (s.open_deps x h), one_else t x (λ q. ne (sym q)), ap (λ n. running n (d.left x)) (else x h ne), ap (λ n. running (c.alloc x) n) (s.left x h))));
-      unarmed = part.unarmed_kept g c d l m _ _ trade r (λ x h. dite (ℕ_discrete x t)
+      unarmed = part.unarmed_kept g c d l m _ _ step r (λ x h. dite (ℕ_discrete x t)
           (λ e. subst (λ (y : ℕ). sign (d.open_deps y) + 0 + sign (d.alloc y) ≤ sign (c.open_deps y) + sum_over (unarmed_of y) (Arm t ∷ []) + sign (c.alloc y)) (sym e)
           (omega (arith, ap sign (s.open_deps t small), one_same t t refl, sign_le (d.alloc t))))
           (λ ne. omega (arith, ap sign (s.open_deps x h), ap sign (else x h ne))));
-      pending = part.pending_kept g c d l m _ _ trade r (λ x k h i. omega (arith, ap sign (s.done x k h i)));
-      left = part.left_kept g c d l m _ _ trade r (λ x h. omega (arith, same_count g c d x (λ k i. s.done x k h i), s.left x h));
-      flags = part.flags_kept g c d l m _ _ trade r s.flags (λ x k h i. omega (arith, ap sign (s.done x k h i)));
-      open_deps = part.open_kept g c d l m _ _ trade r s.open_deps (λ z x. refl);
-      state = part.state_kept g c d l m _ _ trade r s.state (λ z x. refl);
-      fits = part.fits_kept g c d l m _ _ trade r (record {
+      pending = part.pending_kept g c d l m _ _ step r (λ x k h i. omega (arith, ap sign (s.done x k h i)));
+      left = part.left_kept g c d l m _ _ step r (λ x h. omega (arith, same_count g c d x (λ k i. s.done x k h i), s.left x h));
+      flags = part.flags_kept g c d l m _ _ step r s.flags (λ x k h i. omega (arith, ap sign (s.done x k h i)));
+      open_deps = part.open_kept g c d l m _ _ step r s.open_deps (λ z x. refl);
+      state = part.state_kept g c d l m _ _ step r s.state (λ z x. refl);
+      fits = part.fits_kept g c d l m _ _ step r (record {
         done = λ x i ran h. let j = r.graph.ran_instances x i ran in omega (arith, s.done x i j.0 j.1);
         alloc = λ x h. dite (ℕ_discrete x t) (λ e. omega (arith, ap c.alloc e, was)) (λ ne. omega (arith, else x h ne));
         left = λ x h z. omega (arith, s.left x h);

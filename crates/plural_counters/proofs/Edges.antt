@@ -41,9 +41,9 @@ module _ (g : TaskGraph) (c : Counters) (l : List Duty) (t : ℕ) (o : Outcome) 
 
   -- To mark a dependency keeps the rule.
   mark_keeps : Keeps g l (Tell t o e false ∷ []) (Tell t o e true ∷ []) (with_state c u (bit_or (c.state u) (g.edges t u)))
-  mark_keeps m d trade s =
+  mark_keeps m d step s =
       let n = bit_or (c.state u) (g.edges t u) in
-      let had = goes_fits g c l m _ (Tell t o e false) trade r in
+      let had = goes_fits g c l m _ (Tell t o e false) step r in
       let small : t < g.tasks = had.0 in
       let grows : Grows g c d = record {
         done = λ x i ran h. let j = r.graph.ran_instances x i ran in omega (arith, s.done x i j.0 j.1);
@@ -52,29 +52,29 @@ module _ (g : TaskGraph) (c : Counters) (l : List Duty) (t : ℕ) (o : Outcome) 
       } in
       record {
         graph = r.graph;
-        phase = part.phase_kept g c d l m _ _ trade r (λ x h. omega (arith, ap sign (s.open_deps x h), ap (λ y. running y (d.left x)) (s.alloc x h), ap (λ y. running (c.alloc x) y) (s.left x h)));
-        unarmed = part.unarmed_kept g c d l m _ _ trade r (λ x h. omega (arith, ap sign (s.open_deps x h), ap sign (s.alloc x h)));
-        pending = part.pending_kept g c d l m _ _ trade r (λ x i h j. omega (arith, ap sign (s.done x i h j)));
-        left = part.left_kept g c d l m _ _ trade r (λ x h. omega (arith, same_count g c d x (λ i j. s.done x i h j), s.left x h));
-        flags = part.flags_kept g c d l m _ _ trade r s.flags (λ x i h j. omega (arith, ap sign (s.done x i h j)));
-        open_deps = part.open_kept g c d l m _ _ trade r s.open_deps (λ x y. refl);
+        phase = part.phase_kept g c d l m _ _ step r (λ x h. omega (arith, ap sign (s.open_deps x h), ap (λ y. running y (d.left x)) (s.alloc x h), ap (λ y. running (c.alloc x) y) (s.left x h)));
+        unarmed = part.unarmed_kept g c d l m _ _ step r (λ x h. omega (arith, ap sign (s.open_deps x h), ap sign (s.alloc x h)));
+        pending = part.pending_kept g c d l m _ _ step r (λ x i h j. omega (arith, ap sign (s.done x i h j)));
+        left = part.left_kept g c d l m _ _ step r (λ x h. omega (arith, same_count g c d x (λ i j. s.done x i h j), s.left x h));
+        flags = part.flags_kept g c d l m _ _ step r s.flags (λ x i h j. omega (arith, ap sign (s.done x i h j)));
+        open_deps = part.open_kept g c d l m _ _ step r s.open_deps (λ x y. refl);
         state = λ x i h. dite (ℕ_discrete x u)
             (λ q. subst (λ (y : ℕ). bit_at (d.state y) i ≡ sign (sum_below (λ z. masked (sum_over (marked_of g z y) m) (bit_at (g.edges z y) i)) g.tasks)) (sym q) (
             let f : ℕ → ℕ = λ z. masked (sum_over (marked_of g z u) l) (bit_at (g.edges z u) i) in
             let f' : ℕ → ℕ = λ z. masked (sum_over (marked_of g z u) m) (bit_at (g.edges z u) i) in
             let b = bit_at (g.edges t u) i in
-            let here_one : sum_over (marked_of g t u) m ≡ sum_over (marked_of g t u) l + 1 = omega (arith, trade.sums (marked_of g t u), equal_same t t (reached g t u (e + 0)) refl, equal_same t t (reached g t u (e + 1)) refl, reached_here.0, reached_here.1, ap (λ y. reached g t u y) (zero_more e)) in
+            let here_one : sum_over (marked_of g t u) m ≡ sum_over (marked_of g t u) l + 1 = omega (arith, step.sums (marked_of g t u), equal_same t t (reached g t u (e + 0)) refl, equal_same t t (reached g t u (e + 1)) refl, reached_here.0, reached_here.1, ap (λ y. reached g t u y) (zero_more e)) in
             let full : f' t ≡ b = mask_open _ b (omega (arith, here_one)) in
-            let rest : (z : ℕ) → z < g.tasks → z ≢ t → f z ≡ f' z = λ z j ne. ap (λ y. masked y (bit_at (g.edges z u) i)) (omega (arith, trade.sums (marked_of g z u), equal_else t z (reached g z u (e + 0)) (λ p. ne (sym p)), equal_else t z (reached g z u (e + 1)) (λ p. ne (sym p)))) in
+            let rest : (z : ℕ) → z < g.tasks → z ≢ t → f z ≡ f' z = λ z j ne. ap (λ y. masked y (bit_at (g.edges z u) i)) (omega (arith, step.sums (marked_of g z u), equal_else t z (reached g z u (e + 0)) (λ p. ne (sym p)), equal_else t z (reached g z u (e + 1)) (λ p. ne (sym p)))) in
             let change = below_change f f' g.tasks t small rest in
             let one : b ≤ 1 = omega arith in
             let less : f t ≤ b = mask_le _ b in
             ap (λ y. bit_at y i) (s.state u successor_small ∙ set_here c.state u n u refl) ∙ (bit_at_or (c.state u) (g.edges t u) i ∙ (ap (λ y. max y b) (r.state u i successor_small) ∙ sign_or (sum_below f g.tasks) (sum_below f' g.tasks) (f t) b (omega (arith, change, full)) less one (below_term f g.tasks t small)))))
             (λ ne. ap (λ y. bit_at y i) (s.state x h ∙ set_else c.state u n x ne) ∙ (r.state x i h ∙ ap sign (below_same _ _ g.tasks
             (λ z j. ap (λ y. masked y (bit_at (g.edges z x) i)) (dite (ℕ_discrete t z)
-            (λ p. omega (arith, trade.sums (marked_of g z x), equal_same t z (reached g z x (e + 0)) p, equal_same t z (reached g z x (e + 1)) p, ap (λ y. reached g z x y) (zero_more e), subst (λ (w : ℕ). reached g w x (e + 1) ≡ reached g w x e) p (reached_off x ne)))
-            (λ p. omega (arith, trade.sums (marked_of g z x), equal_else t z (reached g z x (e + 0)) p, equal_else t z (reached g z x (e + 1)) p)))))));
-        fits = part.fits_kept g c d l m _ _ trade r grows (all_one (Fits g d) (Tell t o e true) (had.0, had.1, had.2, part.ended_later g c d t grows had.3));
+            (λ p. omega (arith, step.sums (marked_of g z x), equal_same t z (reached g z x (e + 0)) p, equal_same t z (reached g z x (e + 1)) p, ap (λ y. reached g z x y) (zero_more e), subst (λ (w : ℕ). reached g w x (e + 1) ≡ reached g w x e) p (reached_off x ne)))
+            (λ p. omega (arith, step.sums (marked_of g z x), equal_else t z (reached g z x (e + 0)) p, equal_else t z (reached g z x (e + 1)) p)))))));
+        fits = part.fits_kept g c d l m _ _ step r grows (all_one (Fits g d) (Tell t o e true) (had.0, had.1, had.2, part.ended_later g c d t grows had.3));
       }
 
   -- ---- counted
@@ -161,10 +161,10 @@ module _ (g : TaskGraph) (c : Counters) (l : List Duty) (t : ℕ) (o : Outcome) 
       }))
 
   count_keeps : 1 ≤ c.open_deps u → sum_over (counted_of g t u) l ≡ 0 → Keeps g l (Tell t o e true ∷ []) (cond (c.open_deps u == 1) (Decide u ∷ []) [] ++ tell_next (g.successors t) t o e) (with_open c u (c.open_deps u - 1))
-  count_keeps some none_yet m d trade s =
+  count_keeps some none_yet m d step s =
       let extra = cond (c.open_deps u == 1) (Decide u ∷ []) [] in
       let next = tell_next (g.successors t) t o e in let n = is_next in
-      let had = goes_fits g c l m _ (Tell t o e true) trade r in
+      let had = goes_fits g c l m _ (Tell t o e true) step r in
       let here : d.open_deps u ≡ c.open_deps u - 1 = s.open_deps u successor_small ∙ set_here c.open_deps u (c.open_deps u - 1) u refl in
       let else : (x : ℕ) → x < g.tasks → x ≢ u → d.open_deps x ≡ c.open_deps x = λ x h ne. s.open_deps x h ∙ set_else c.open_deps u (c.open_deps u - 1) x ne in
       let more = besides d some here else in
@@ -176,16 +176,16 @@ module _ (g : TaskGraph) (c : Counters) (l : List Duty) (t : ℕ) (o : Outcome) 
       } in
       record {
         graph = r.graph;
-        phase = part.phase_kept g c d l m _ _ trade r (λ x h. omega (arith, sum (phase_of x), n.phase x, more.phase x h, ap (λ y. running y (d.left x)) (s.alloc x h), ap (λ y. running (c.alloc x) y) (s.left x h)));
-        unarmed = part.unarmed_kept g c d l m _ _ trade r (λ x h. omega (arith, sum (unarmed_of x), n.unarmed x, more.phase x h, more.unarmed x, ap sign (s.alloc x h)));
-        pending = part.pending_kept g c d l m _ _ trade r (λ x i h j. omega (arith, sum (pending_of x i), n.pending x i, more.pending x i, ap sign (s.done x i h j)));
-        left = part.left_kept g c d l m _ _ trade r (λ x h. omega (arith, sum (uncounted_of x), n.uncounted x, more.uncounted x, same_count g c d x (λ i j. s.done x i h j), s.left x h));
-        flags = part.flags_kept g c d l m _ _ trade r s.flags (λ x i h j. omega (arith, sum (unflagged_of x i), n.unflagged x i, more.unflagged x i, ap sign (s.done x i h j)));
+        phase = part.phase_kept g c d l m _ _ step r (λ x h. omega (arith, sum (phase_of x), n.phase x, more.phase x h, ap (λ y. running y (d.left x)) (s.alloc x h), ap (λ y. running (c.alloc x) y) (s.left x h)));
+        unarmed = part.unarmed_kept g c d l m _ _ step r (λ x h. omega (arith, sum (unarmed_of x), n.unarmed x, more.phase x h, more.unarmed x, ap sign (s.alloc x h)));
+        pending = part.pending_kept g c d l m _ _ step r (λ x i h j. omega (arith, sum (pending_of x i), n.pending x i, more.pending x i, ap sign (s.done x i h j)));
+        left = part.left_kept g c d l m _ _ step r (λ x h. omega (arith, sum (uncounted_of x), n.uncounted x, more.uncounted x, same_count g c d x (λ i j. s.done x i h j), s.left x h));
+        flags = part.flags_kept g c d l m _ _ step r s.flags (λ x i h j. omega (arith, sum (unflagged_of x i), n.unflagged x i, more.unflagged x i, ap sign (s.done x i h j)));
         open_deps = λ x h. dite (ℕ_discrete x u)
             (λ q. subst (λ (y : ℕ). d.open_deps y ≡ sum_below (λ z. times y (g.successors z) - sum_over (counted_of g z y) m) g.tasks) (sym q) (
             let f : ℕ → ℕ = λ z. times u (g.successors z) - sum_over (counted_of g z u) l in
             let f' : ℕ → ℕ = λ z. times u (g.successors z) - sum_over (counted_of g z u) m in
-            let moved : (z : ℕ) → sum_over (counted_of g z u) m + if_equal t z (reached g z u e) ≡ sum_over (counted_of g z u) l + if_equal t z (reached g z u (e + 1)) = λ z. omega (arith, trade.sums (counted_of g z u), sum (counted_of g z u), n.counted z u, more.counted z u) in
+            let moved : (z : ℕ) → sum_over (counted_of g z u) m + if_equal t z (reached g z u e) ≡ sum_over (counted_of g z u) l + if_equal t z (reached g z u (e + 1)) = λ z. omega (arith, step.sums (counted_of g z u), sum (counted_of g z u), n.counted z u, more.counted z u) in
             let rest : (z : ℕ) → z < g.tasks → z ≢ t → f z ≡ f' z = λ z j ne. omega (arith, moved z, equal_else t z (reached g z u e) (λ p. ne (sym p)), equal_else t z (reached g z u (e + 1)) (λ p. ne (sym p))) in
             let change = below_change f f' g.tasks t had.0 rest in
             let was : f t ≡ 1 = omega (arith, none_yet, reached_here.2) in
@@ -194,12 +194,12 @@ module _ (g : TaskGraph) (c : Counters) (l : List Duty) (t : ℕ) (o : Outcome) 
             (λ ne.
             let f : ℕ → ℕ = λ z. times x (g.successors z) - sum_over (counted_of g z x) l in
             let f' : ℕ → ℕ = λ z. times x (g.successors z) - sum_over (counted_of g z x) m in
-            let moved : (z : ℕ) → sum_over (counted_of g z x) m + if_equal t z (reached g z x e) ≡ sum_over (counted_of g z x) l + if_equal t z (reached g z x (e + 1)) = λ z. omega (arith, trade.sums (counted_of g z x), sum (counted_of g z x), n.counted z x, more.counted z x) in
+            let moved : (z : ℕ) → sum_over (counted_of g z x) m + if_equal t z (reached g z x e) ≡ sum_over (counted_of g z x) l + if_equal t z (reached g z x (e + 1)) = λ z. omega (arith, step.sums (counted_of g z x), sum (counted_of g z x), n.counted z x, more.counted z x) in
             else x h ne ∙ (r.open_deps x h ∙ below_same f f' g.tasks (λ z j. dite (ℕ_discrete t z)
             (λ p. omega (arith, moved z, equal_same t z (reached g z x e) p, equal_same t z (reached g z x (e + 1)) p, subst (λ (w : ℕ). reached g w x (e + 1) ≡ reached g w x e) p (reached_off x ne)))
             (λ p. omega (arith, moved z, equal_else t z (reached g z x e) p, equal_else t z (reached g z x (e + 1)) p)))));
-        state = part.state_kept g c d l m _ _ trade r s.state (λ z x. omega (arith, sum (marked_of g z x), n.marked z x, more.marked z x));
-        fits = part.fits_kept g c d l m _ _ trade r grows (All-append (Fits g d) extra next more.fits (next_cases (All (Fits g d))
+        state = part.state_kept g c d l m _ _ step r s.state (λ z x. omega (arith, sum (marked_of g z x), n.marked z x, more.marked z x));
+        fits = part.fits_kept g c d l m _ _ step r grows (All-append (Fits g d) extra next more.fits (next_cases (All (Fits g d))
             (λ h. all_one (Fits g d) (Tell t o (e + 1) false) (had.0, had.1, h, part.ended_later g c d t grows had.3))
             (λ h. all_one (Fits g d) (Told t o) (had.0, had.1, part.ended_later g c d t grows had.3))));
       }

@@ -13,7 +13,7 @@ use Rattle.plural_order.proofs.Sums.{below_same}
 use Rattle.plural_counters.specs.Duties.{one_if_pair, phase_of, unarmed_of, uncounted_of, pending_of, unflagged_of, counted_of, marked_of, HasEnded, MayRun}
 use Rattle.plural_counters.specs.Counters.{Counters, running, Fits, IsCounted}
 use Rattle.plural_counters.specs.Steps.{set_at, set_at_pair, with_left, IsSame, Keeps, tell_first}
-use Rattle.plural_counters.specs.Laws.{Stays, HandsOut, Finishes, Marks, CountsOff, outcome_of_flags, LoadsFlags}
+use Rattle.plural_counters.specs.Laws.{Stays, HandsOut, Finishes, Marks, CountsOff, outcome_of_flags, LoadsFlags, PendingDone}
 use Rattle.plural_counters.specs.declared.duty.Duty.{Duty}
 use Rattle.plural_counters.specs.declared.duty.Duty.TheVariants.{Flag, Count, Close, Tell, Told}
 use Rattle.plural_counters.proofs.Sums.{one_same, one_else, pair_same, pair_first, pair_second, pair_cases, sign_none, sign_some, sign_le, mask_shut, mask_open, sign_or, term_in, sum_le, below_change, below_few, below_full}
@@ -37,7 +37,7 @@ same_count g c d u s = below_same (λ l. sign (d.done u l)) (λ l. sign (c.done 
 
 -- A step that changes no duty, and of the words no more than alloc of armed tasks.
 pub hand_out : HandsOut
-hand_out g c l t n r armed more m d trade s =
+hand_out g c l t n r armed more m d step s =
     let up : (u : ℕ) → u < g.tasks → (d.alloc u ≡ c.alloc u) ⊎ ((1 ≤ c.alloc u) × (c.alloc u ≤ d.alloc u)) = λ u h. dite (ℕ_discrete u t)
     (λ e. inr (subst (λ (x : ℕ). 1 ≤ c.alloc x) (sym e) armed, omega (arith, s.alloc u h, set_here c.alloc t n u e, ap c.alloc e)))
     (λ ne. inl (s.alloc u h ∙ set_else c.alloc t n u ne)) in
@@ -46,14 +46,14 @@ hand_out g c l t n r armed more m d trade s =
     let set : (u : ℕ) → u < g.tasks → sign (d.alloc u) ≡ sign (c.alloc u) = λ u h. ⊎_elim (λ e. ap sign e) (λ p. sign_some (d.alloc u) (omega (arith, p)) ∙ sym (sign_some (c.alloc u) p.0)) (up u h) in
     record {
       graph = r.graph;
-      phase = part.phase_kept g c d l m [] [] trade r (λ u h. omega (arith, ap sign (s.open_deps u h), run u h));
-      unarmed = part.unarmed_kept g c d l m [] [] trade r (λ u h. omega (arith, ap sign (s.open_deps u h), set u h));
-      pending = part.pending_kept g c d l m [] [] trade r (λ u k h i. omega (arith, ap sign (s.done u k h i)));
-      left = part.left_kept g c d l m [] [] trade r (λ u h. omega (arith, same_count g c d u (λ k i. s.done u k h i), s.left u h));
-      flags = part.flags_kept g c d l m [] [] trade r s.flags (λ u k h i. omega (arith, ap sign (s.done u k h i)));
-      open_deps = part.open_kept g c d l m [] [] trade r s.open_deps (λ x u. refl);
-      state = part.state_kept g c d l m [] [] trade r s.state (λ x u. refl);
-      fits = part.fits_kept g c d l m [] [] trade r (record {
+      phase = part.phase_kept g c d l m [] [] step r (λ u h. omega (arith, ap sign (s.open_deps u h), run u h));
+      unarmed = part.unarmed_kept g c d l m [] [] step r (λ u h. omega (arith, ap sign (s.open_deps u h), set u h));
+      pending = part.pending_kept g c d l m [] [] step r (λ u k h i. omega (arith, ap sign (s.done u k h i)));
+      left = part.left_kept g c d l m [] [] step r (λ u h. omega (arith, same_count g c d u (λ k i. s.done u k h i), s.left u h));
+      flags = part.flags_kept g c d l m [] [] step r s.flags (λ u k h i. omega (arith, ap sign (s.done u k h i)));
+      open_deps = part.open_kept g c d l m [] [] step r s.open_deps (λ x u. refl);
+      state = part.state_kept g c d l m [] [] step r s.state (λ x u. refl);
+      fits = part.fits_kept g c d l m [] [] step r (record {
         done = λ u k ran h. let i = r.graph.ran_instances u k ran in omega (arith, s.done u k i.0 i.1);
         alloc = λ u h. ⊎_elim (λ e. omega (arith, e)) (λ p. p.1) (up u h);
         left = λ u h z. omega (arith, s.left u h);
@@ -62,23 +62,23 @@ hand_out g c l t n r armed more m d trade s =
 
 -- A step that changes no duty, and no word.
 pub stay : Stays
-stay g c l r m d trade s = record {
+stay g c l r m d step s = record {
   graph = r.graph;
-  phase = part.phase_kept g c d l m [] [] trade r (λ u h. omega (arith, ap sign (s.open_deps u h), ap (λ x. running x (d.left u)) (s.alloc u h), ap (λ x. running (c.alloc u) x) (s.left u h)));
-  unarmed = part.unarmed_kept g c d l m [] [] trade r (λ u h. omega (arith, ap sign (s.open_deps u h), ap sign (s.alloc u h)));
-  pending = part.pending_kept g c d l m [] [] trade r (λ u k h i. omega (arith, ap sign (s.done u k h i)));
-  left = part.left_kept g c d l m [] [] trade r (λ u h. omega (arith, same_count g c d u (λ k i. s.done u k h i), s.left u h));
-  flags = part.flags_kept g c d l m [] [] trade r s.flags (λ u k h i. omega (arith, ap sign (s.done u k h i)));
-  open_deps = part.open_kept g c d l m [] [] trade r s.open_deps (λ x u. refl);
-  state = part.state_kept g c d l m [] [] trade r s.state (λ x u. refl);
-  fits = part.fits_kept g c d l m [] [] trade r (grows_same g c d r.graph s) (All-nil (Fits g d));
+  phase = part.phase_kept g c d l m [] [] step r (λ u h. omega (arith, ap sign (s.open_deps u h), ap (λ x. running x (d.left u)) (s.alloc u h), ap (λ x. running (c.alloc u) x) (s.left u h)));
+  unarmed = part.unarmed_kept g c d l m [] [] step r (λ u h. omega (arith, ap sign (s.open_deps u h), ap sign (s.alloc u h)));
+  pending = part.pending_kept g c d l m [] [] step r (λ u k h i. omega (arith, ap sign (s.done u k h i)));
+  left = part.left_kept g c d l m [] [] step r (λ u h. omega (arith, same_count g c d u (λ k i. s.done u k h i), s.left u h));
+  flags = part.flags_kept g c d l m [] [] step r s.flags (λ u k h i. omega (arith, ap sign (s.done u k h i)));
+  open_deps = part.open_kept g c d l m [] [] step r s.open_deps (λ x u. refl);
+  state = part.state_kept g c d l m [] [] step r s.state (λ x u. refl);
+  fits = part.fits_kept g c d l m [] [] step r (grows_same g c d r.graph s) (All-nil (Fits g d));
 }
 
 -- ---- done
 
 -- To finish an instance keeps the rule.
 pub finish : Finishes
-finish g c l t k n r small few was now m d trade s =
+finish g c l t k n r small few was now m d step s =
     let old = set_at_pair c.done t k n in
     let here : (x y : ℕ) → x ≡ t → y ≡ k → old x y ≡ n = λ x y e f. ap (λ b. cond b (set_at (c.done x) k n y) (c.done x y)) (eq-eqb x t e) ∙ set_here (c.done x) k n y f in
     let else : (x y : ℕ) → (t ≡ x → k ≢ y) → old x y ≡ c.done x y = λ x y h. dite (ℕ_discrete x t)
@@ -98,35 +98,35 @@ finish g c l t k n r small few was now m d trade s =
     (λ ne. omega (arith, one_else t u ne, same_count g c d u (λ i i_few. s.done u i h i_few ∙ else u i (λ a. absurd (ne a))))) in
     record {
       graph = r.graph;
-      phase = part.phase_kept g c d l m _ _ trade r (λ u h. omega (arith, ap sign (s.open_deps u h), ap (λ x. running x (d.left u)) (s.alloc u h), ap (λ x. running (c.alloc u) x) (s.left u h)));
-      unarmed = part.unarmed_kept g c d l m _ _ trade r (λ u h. omega (arith, ap sign (s.open_deps u h), ap sign (s.alloc u h)));
-      pending = part.pending_kept g c d l m _ _ trade r (λ u i h j. omega (arith, done u i h j));
-      left = part.left_kept g c d l m _ _ trade r (λ u h. omega (arith, count u h, s.left u h));
-      flags = part.flags_kept g c d l m _ _ trade r s.flags (λ u i h j. omega (arith, done u i h j));
-      open_deps = part.open_kept g c d l m _ _ trade r s.open_deps (λ x u. refl);
-      state = part.state_kept g c d l m _ _ trade r s.state (λ x u. refl);
-      fits = part.fits_kept g c d l m _ _ trade r grows (all_one (Fits g d) (Flag t k) (small, few));
+      phase = part.phase_kept g c d l m _ _ step r (λ u h. omega (arith, ap sign (s.open_deps u h), ap (λ x. running x (d.left u)) (s.alloc u h), ap (λ x. running (c.alloc u) x) (s.left u h)));
+      unarmed = part.unarmed_kept g c d l m _ _ step r (λ u h. omega (arith, ap sign (s.open_deps u h), ap sign (s.alloc u h)));
+      pending = part.pending_kept g c d l m _ _ step r (λ u i h j. omega (arith, done u i h j));
+      left = part.left_kept g c d l m _ _ step r (λ u h. omega (arith, count u h, s.left u h));
+      flags = part.flags_kept g c d l m _ _ step r s.flags (λ u i h j. omega (arith, done u i h j));
+      open_deps = part.open_kept g c d l m _ _ step r s.open_deps (λ x u. refl);
+      state = part.state_kept g c d l m _ _ step r s.state (λ x u. refl);
+      fits = part.fits_kept g c d l m _ _ step r grows (all_one (Fits g d) (Flag t k) (small, few));
     }
 
 -- ---- flagged
 
 -- To flag an instance keeps the rule.
 pub mark : Marks
-mark g c l t k r m d trade s =
-    let inst = goes_fits g c l m _ (Flag t k) trade r in
+mark g c l t k r m d step s =
+    let inst = goes_fits g c l m _ (Flag t k) step r in
     let small : t < g.tasks = inst.0 in
     let pending = r.pending t k inst.0 inst.1 in
     let less = sum_le (unflagged_of t k) (pending_of t k) l (unflagged_pending t k) in
-    let before : sum_over (unflagged_of t k) l ≡ 1 = omega (arith, trade.part (unflagged_of t k), pair_same t k t k refl refl, less, pending, sign_le (c.done t k)) in
+    let before : sum_over (unflagged_of t k) l ≡ 1 = omega (arith, step.part (unflagged_of t k), pair_same t k t k refl refl, less, pending, sign_le (c.done t k)) in
     let done : sign (c.done t k) ≡ 1 = omega (arith, before, less, pending, sign_le (c.done t k)) in
-    let after : sum_over (unflagged_of t k) m ≡ 0 = omega (arith, before, trade.sums (unflagged_of t k), pair_same t k t k refl refl) in
+    let after : sum_over (unflagged_of t k) m ≡ 0 = omega (arith, before, step.sums (unflagged_of t k), pair_same t k t k refl refl) in
     let n = bit_or (c.flags t) (g.ends t k) in
     record {
       graph = r.graph;
-      phase = part.phase_kept g c d l m _ _ trade r (λ u h. omega (arith, ap sign (s.open_deps u h), ap (λ x. running x (d.left u)) (s.alloc u h), ap (λ x. running (c.alloc u) x) (s.left u h)));
-      unarmed = part.unarmed_kept g c d l m _ _ trade r (λ u h. omega (arith, ap sign (s.open_deps u h), ap sign (s.alloc u h)));
-      pending = part.pending_kept g c d l m _ _ trade r (λ u i h j. omega (arith, ap sign (s.done u i h j)));
-      left = part.left_kept g c d l m _ _ trade r (λ u h. omega (arith, same_count g c d u (λ i j. s.done u i h j), s.left u h));
+      phase = part.phase_kept g c d l m _ _ step r (λ u h. omega (arith, ap sign (s.open_deps u h), ap (λ x. running x (d.left u)) (s.alloc u h), ap (λ x. running (c.alloc u) x) (s.left u h)));
+      unarmed = part.unarmed_kept g c d l m _ _ step r (λ u h. omega (arith, ap sign (s.open_deps u h), ap sign (s.alloc u h)));
+      pending = part.pending_kept g c d l m _ _ step r (λ u i h j. omega (arith, ap sign (s.done u i h j)));
+      left = part.left_kept g c d l m _ _ step r (λ u h. omega (arith, same_count g c d u (λ i j. s.done u i h j), s.left u h));
       flags = λ u i h. dite (ℕ_discrete t u)
           (λ e. subst (λ (x : ℕ). bit_at (d.flags x) i ≡ sign (sum_below (λ y. masked (sign (d.done x y) - sum_over (unflagged_of x y) m) (bit_at (g.ends x y) i)) (g.quota x))) e (
           let f : ℕ → ℕ = λ y. masked (sign (c.done t y) - sum_over (unflagged_of t y) l) (bit_at (g.ends t y) i) in
@@ -134,15 +134,15 @@ mark g c l t k r m d trade s =
           let x = bit_at (g.ends t k) i in
           let none : f k ≡ 0 = mask_shut (sign (c.done t k) - sum_over (unflagged_of t k) l) x (omega (arith, before, done)) in
           let full : f' k ≡ x = mask_open (sign (d.done t k) - sum_over (unflagged_of t k) m) x (omega (arith, after, done, ap sign (s.done t k inst.0 inst.1))) in
-          let rest : (y : ℕ) → y < g.quota t → y ≢ k → f y ≡ f' y = λ y j ne. ap (λ z. masked z (bit_at (g.ends t y) i)) (omega (arith, ap sign (s.done t y small j), trade.sums (unflagged_of t y), pair_second t k t y (λ q. ne (sym q)))) in
+          let rest : (y : ℕ) → y < g.quota t → y ≢ k → f y ≡ f' y = λ y j ne. ap (λ z. masked z (bit_at (g.ends t y) i)) (omega (arith, ap sign (s.done t y small j), step.sums (unflagged_of t y), pair_second t k t y (λ q. ne (sym q)))) in
           let change = below_change f f' (g.quota t) k inst.1 rest in
           let one : x ≤ 1 = omega arith in
           ap (λ z. bit_at z i) (s.flags t small ∙ set_here c.flags t n t refl) ∙ (bit_at_or (c.flags t) (g.ends t k) i ∙ (ap (λ z. max z x) (r.flags t i small) ∙ sign_or (sum_below f (g.quota t)) (sum_below f' (g.quota t)) 0 x (omega (arith, change, none, full)) (omega arith) one (omega arith)))))
           (λ ne. ap (λ z. bit_at z i) (s.flags u h ∙ set_else c.flags t n u (λ q. ne (sym q))) ∙ (r.flags u i h ∙ ap sign (below_same _ _ (g.quota u)
-          (λ y j. ap (λ z. masked z (bit_at (g.ends u y) i)) (omega (arith, ap sign (s.done u y h j), trade.sums (unflagged_of u y), pair_first t k u y ne))))));
-      open_deps = part.open_kept g c d l m _ _ trade r s.open_deps (λ x u. refl);
-      state = part.state_kept g c d l m _ _ trade r s.state (λ x u. refl);
-      fits = part.fits_kept g c d l m _ _ trade r (record {
+          (λ y j. ap (λ z. masked z (bit_at (g.ends u y) i)) (omega (arith, ap sign (s.done u y h j), step.sums (unflagged_of u y), pair_first t k u y ne))))));
+      open_deps = part.open_kept g c d l m _ _ step r s.open_deps (λ x u. refl);
+      state = part.state_kept g c d l m _ _ step r s.state (λ x u. refl);
+      fits = part.fits_kept g c d l m _ _ step r (record {
         done = λ u i ran h. let j = r.graph.ran_instances u i ran in omega (arith, s.done u i j.0 j.1);
         alloc = λ u h. omega (arith, s.alloc u h);
         left = λ u h z. omega (arith, s.left u h);
@@ -168,8 +168,8 @@ record IsAfterCount (g : TaskGraph) (c d : Counters) (new : List Duty) : Type 0 
 
 count_keeps : (g : TaskGraph) (c : Counters) (l : List Duty) (t k : ℕ) → IsCounted g c l → 1 ≤ c.alloc t → 1 ≤ c.left t
     → Keeps g l (Count t k ∷ []) (cond (c.left t == 1) (Close t ∷ []) []) (with_left c t (c.left t - 1))
-count_keeps g c l t k r armed some m d trade s =
-    let small : t < g.tasks = (goes_fits g c l m _ (Count t k) trade r).0 in
+count_keeps g c l t k r armed some m d step s =
+    let small : t < g.tasks = (goes_fits g c l m _ (Count t k) step r).0 in
     let n = c.left t - 1 in
     let here : d.left t ≡ n = s.left t small ∙ set_here c.left t n t refl in
     let else : (u : ℕ) → u < g.tasks → u ≢ t → d.left u ≡ c.left u = λ u h ne. s.left u h ∙ set_else c.left t n u ne in
@@ -207,16 +207,16 @@ count_keeps g c l t k r armed some m d trade s =
     (λ ne. subst (λ b. IsAfterCount g c d (cond b (Close t ∷ []) [])) (sym (ne_eqb (c.left t) 1 ne)) (more ne)) in
     record {
       graph = r.graph;
-      phase = part.phase_kept g c d l m _ _ trade r a.phase;
-      unarmed = part.unarmed_kept g c d l m _ _ trade r (λ u h. omega (arith, ap sign (s.open_deps u h), ap sign (s.alloc u h), a.unarmed u));
-      pending = part.pending_kept g c d l m _ _ trade r (λ u i h j. omega (arith, ap sign (s.done u i h j), a.pending u i));
-      left = part.left_kept g c d l m _ _ trade r (λ u h. dite (ℕ_discrete u t)
+      phase = part.phase_kept g c d l m _ _ step r a.phase;
+      unarmed = part.unarmed_kept g c d l m _ _ step r (λ u h. omega (arith, ap sign (s.open_deps u h), ap sign (s.alloc u h), a.unarmed u));
+      pending = part.pending_kept g c d l m _ _ step r (λ u i h j. omega (arith, ap sign (s.done u i h j), a.pending u i));
+      left = part.left_kept g c d l m _ _ step r (λ u h. dite (ℕ_discrete u t)
           (λ e. omega (arith, same_count g c d u (λ i j. s.done u i h j), ap d.left e, ap c.left e, here, one_same t u (sym e), a.uncounted u))
           (λ ne. omega (arith, same_count g c d u (λ i j. s.done u i h j), else u h ne, one_else t u (λ q. ne (sym q)), a.uncounted u)));
-      flags = part.flags_kept g c d l m _ _ trade r s.flags (λ u i h j. omega (arith, ap sign (s.done u i h j), a.unflagged u i));
-      open_deps = part.open_kept g c d l m _ _ trade r s.open_deps (λ x u. a.counted x u);
-      state = part.state_kept g c d l m _ _ trade r s.state (λ x u. a.marked x u);
-      fits = part.fits_kept g c d l m _ _ trade r (record {
+      flags = part.flags_kept g c d l m _ _ step r s.flags (λ u i h j. omega (arith, ap sign (s.done u i h j), a.unflagged u i));
+      open_deps = part.open_kept g c d l m _ _ step r s.open_deps (λ x u. a.counted x u);
+      state = part.state_kept g c d l m _ _ step r s.state (λ x u. a.marked x u);
+      fits = part.fits_kept g c d l m _ _ step r (record {
         done = λ u i ran h. let j = r.graph.ran_instances u i ran in omega (arith, s.done u i j.0 j.1);
         alloc = λ u h. omega (arith, s.alloc u h);
         left = λ u h z. dite (ℕ_discrete u t) (λ e. absurd (omega (arith, ap c.left e))) (λ ne. omega (arith, else u h ne));
@@ -229,6 +229,17 @@ count g c l t k r there armed =
     let small : t < g.tasks = (All-contains (Fits g c) l (Count t k) r.fits there).0 in
     let some = some_left g c l t r small (omega (arith, term_in (uncounted_of t) l (Count t k) there, one_same t t refl)) in
     record { some_left = some; keeps = count_keeps g c l t k r armed some }
+
+pending_one : (g : TaskGraph) (c : Counters) (l : List Duty) (t k : ℕ) → IsCounted g c l → (t < g.tasks) × (k < g.quota t) → 1 ≤ sum_over (pending_of t k) l → (1 ≤ c.done t k) × (sum_over (pending_of t k) l ≡ 1)
+pending_one g c l t k r inst some =
+    let le = r.pending t k inst.0 inst.1 in
+    let one = sign_le (c.done t k) in
+    (dite (ℕ_discrete (c.done t k) 0) (λ z. absurd (omega (arith, sign_none (c.done t k) z))) (λ ne. omega arith), omega arith)
+
+-- What is to be flagged or counted is done, and isn't both.
+pub pending_done : PendingDone
+pending_done g c l t k r (inl there) = pending_one g c l t k r (All-contains (Fits g c) l (Flag t k) r.fits there) (omega (arith, term_in (pending_of t k) l (Flag t k) there, pair_same t k t k refl refl))
+pending_done g c l t k r (inr there) = pending_one g c l t k r (All-contains (Fits g c) l (Count t k) r.fits there) (omega (arith, term_in (pending_of t k) l (Count t k) there, pair_same t k t k refl refl))
 
 -- ---- closed
 
@@ -252,18 +263,18 @@ module _ (g : TaskGraph) (c : Counters) (l : List Duty) (t : ℕ) (r : IsCounted
 pub tell_keeps : (g : TaskGraph) (c : Counters) (l : List Duty) (t : ℕ) (o : Outcome) (p : Duty) → IsCounted g c l → t < g.tasks → o ≡ g.outcome t → HasEnded g c.done t
     → ((u : ℕ) → phase_of u p ≡ one_if t u) → ((x k : ℕ) → (uncounted_of x p ≡ 0) × (unflagged_of x k p ≡ 0)) → ((x u : ℕ) → (counted_of g x u p ≡ 0) × (marked_of g x u p ≡ 0))
     → Keeps g l (p ∷ []) (tell_first (g.successors t) t o) c
-tell_keeps g c l t o p r small is ended phase counts edges m d trade s =
+tell_keeps g c l t o p r small is ended phase counts edges m d step s =
     let ss = g.successors t in
     record {
       graph = r.graph;
-      phase = part.phase_kept g c d l m _ _ trade r (λ u h. omega (arith, phase u, first_phase t o ss u, ap sign (s.open_deps u h), ap (λ x. running x (d.left u)) (s.alloc u h), ap (λ x. running (c.alloc u) x) (s.left u h)));
-      unarmed = part.unarmed_kept g c d l m _ _ trade r (λ u h. omega (arith, first_unarmed t o ss u, ap sign (s.open_deps u h), ap sign (s.alloc u h)));
-      pending = part.pending_kept g c d l m _ _ trade r (λ u k h i. omega (arith, first_pending t o ss u k, ap sign (s.done u k h i)));
-      left = part.left_kept g c d l m _ _ trade r (λ u h. omega (arith, (counts u 0).0, first_uncounted t o ss u, same_count g c d u (λ k i. s.done u k h i), s.left u h));
-      flags = part.flags_kept g c d l m _ _ trade r s.flags (λ u k h i. omega (arith, (counts u k).1, first_unflagged t o ss u k, ap sign (s.done u k h i)));
-      open_deps = part.open_kept g c d l m _ _ trade r s.open_deps (λ x u. omega (arith, (edges x u).0, first_counted t o g ss refl x u));
-      state = part.state_kept g c d l m _ _ trade r s.state (λ x u. omega (arith, (edges x u).1, first_marked t o g ss refl x u));
-      fits = part.fits_kept g c d l m _ _ trade r grows (fresh ss refl);
+      phase = part.phase_kept g c d l m _ _ step r (λ u h. omega (arith, phase u, first_phase t o ss u, ap sign (s.open_deps u h), ap (λ x. running x (d.left u)) (s.alloc u h), ap (λ x. running (c.alloc u) x) (s.left u h)));
+      unarmed = part.unarmed_kept g c d l m _ _ step r (λ u h. omega (arith, first_unarmed t o ss u, ap sign (s.open_deps u h), ap sign (s.alloc u h)));
+      pending = part.pending_kept g c d l m _ _ step r (λ u k h i. omega (arith, first_pending t o ss u k, ap sign (s.done u k h i)));
+      left = part.left_kept g c d l m _ _ step r (λ u h. omega (arith, (counts u 0).0, first_uncounted t o ss u, same_count g c d u (λ k i. s.done u k h i), s.left u h));
+      flags = part.flags_kept g c d l m _ _ step r s.flags (λ u k h i. omega (arith, (counts u k).1, first_unflagged t o ss u k, ap sign (s.done u k h i)));
+      open_deps = part.open_kept g c d l m _ _ step r s.open_deps (λ x u. omega (arith, (edges x u).0, first_counted t o g ss refl x u));
+      state = part.state_kept g c d l m _ _ step r s.state (λ x u. omega (arith, (edges x u).1, first_marked t o g ss refl x u));
+      fits = part.fits_kept g c d l m _ _ step r grows (fresh ss refl);
     }
   where
     grows : Grows g c d

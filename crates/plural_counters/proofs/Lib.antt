@@ -8,3 +8,4 @@ pub mod Views
 pub mod SoundViews
 pub mod Openings
 pub mod AllTold
+pub mod TwoTasks

@@ -17,7 +17,7 @@ use Rattle.plural_counters.specs.declared.duty.Duty.{Duty}
 use Rattle.plural_counters.proofs.Sums.{sign_none, sign_some, mask_shut, mask_open}
 
 -- The first counters meet the rule over no duty.
-first_lone : (g : TaskGraph) (d : Counters) → IsTaskGraph g → IsSame g (first_counters g) d → IsCounted g d []
+pub first_lone : (g : TaskGraph) (d : Counters) → IsTaskGraph g → IsSame g (first_counters g) d → IsCounted g d []
 first_lone g d graph s =
     let undone : (t k : ℕ) → t < g.tasks → k < g.quota t → sign (d.done t k) ≡ 0 = λ t k h i. sign_none (d.done t k) (s.done t k h i) in
     let armed : (t : ℕ) → t < g.tasks → g.deps t ≡ 0 → d.alloc t ≡ 1 = λ t h z. s.alloc t h ∙ ap (λ b. cond b 1 0) (eq-eqb (g.deps t) 0 z) in
@@ -42,13 +42,17 @@ first_lone g d graph s =
 pub first_counted : {V : Type 0} → FirstCounted V
 first_counted duties g d v graph s none = subst (λ (l : List Duty). IsCounted g d (l ++ [])) (sym none) (first_lone g d graph s)
 
--- Those of a program meet it.
-pub program_counted : ProgramCounted
-program_counted p m limits = first_lone (graph_of p m) (first_counters (graph_of p m)) (graph_of_program p m limits) (record {
+-- Counters say the same as themselves.
+pub same_itself : (g : TaskGraph) (c : Counters) → IsSame g c c
+same_itself g c = record {
   alloc = λ t h. refl;
   done = λ t k h i. refl;
   flags = λ t h. refl;
   left = λ t h. refl;
   state = λ t h. refl;
   open_deps = λ t h. refl;
-})
+}
+
+-- Those of a program meet it.
+pub program_counted : ProgramCounted
+program_counted p m limits = first_lone (graph_of p m) (first_counters (graph_of p m)) (graph_of_program p m limits) (same_itself (graph_of p m) (first_counters (graph_of p m)))

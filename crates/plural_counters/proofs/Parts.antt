@@ -7,7 +7,7 @@ use Rattle.plural_order.specs.TaskGraph.{TaskGraph}
 use Rattle.plural_order.proofs.Sums.{below_same}
 use Rattle.plural_counters.specs.Duties.{phase_of, unarmed_of, uncounted_of, pending_of, unflagged_of, counted_of, marked_of, HasEnded, MayRun}
 use Rattle.plural_counters.specs.Counters.{Counters, running, Fits, IsCounted}
-use Rattle.plural_counters.specs.Steps.{set_at, Trade}
+use Rattle.plural_counters.specs.Steps.{set_at, Replaces}
 use Rattle.plural_counters.specs.declared.duty.Duty.{Duty}
 use Rattle.plural_counters.specs.declared.duty.Duty.TheVariants.{Flag, Count, Close, Tell, Decide, Arm, Told}
 
@@ -56,43 +56,43 @@ one_there p = (0, omega arith, refl)
 
 -- ---- parts
 
-module _ (g : TaskGraph) (c d : Counters) (l m old new : List Duty) (trade : Trade l m old new) (r : IsCounted g c l) where
+module _ (g : TaskGraph) (c d : Counters) (l m old new : List Duty) (step : Replaces l m old new) (r : IsCounted g c l) where
   pub phase_kept : ((t : ℕ) → t < g.tasks → sign (d.open_deps t) + sum_over (phase_of t) new + running (d.alloc t) (d.left t) ≡ sign (c.open_deps t) + sum_over (phase_of t) old + running (c.alloc t) (c.left t))
       → (t : ℕ) → t < g.tasks → sign (d.open_deps t) + sum_over (phase_of t) m + running (d.alloc t) (d.left t) ≡ 1
-  phase_kept h t small = omega (arith, h t small, r.phase t small, trade.sums (phase_of t))
+  phase_kept h t small = omega (arith, h t small, r.phase t small, step.sums (phase_of t))
 
   pub unarmed_kept : ((t : ℕ) → t < g.tasks → sign (d.open_deps t) + sum_over (unarmed_of t) new + sign (d.alloc t) ≤ sign (c.open_deps t) + sum_over (unarmed_of t) old + sign (c.alloc t))
       → (t : ℕ) → t < g.tasks → sign (d.open_deps t) + sum_over (unarmed_of t) m + sign (d.alloc t) ≤ 1
-  unarmed_kept h t small = omega (arith, h t small, r.unarmed t small, trade.sums (unarmed_of t))
+  unarmed_kept h t small = omega (arith, h t small, r.unarmed t small, step.sums (unarmed_of t))
 
   pub pending_kept : ((t k : ℕ) → t < g.tasks → k < g.quota t → sum_over (pending_of t k) new + sign (c.done t k) ≤ sum_over (pending_of t k) old + sign (d.done t k))
       → (t k : ℕ) → t < g.tasks → k < g.quota t → sum_over (pending_of t k) m ≤ sign (d.done t k)
-  pending_kept h t k small few = omega (arith, h t k small few, r.pending t k small few, trade.sums (pending_of t k))
+  pending_kept h t k small few = omega (arith, h t k small few, r.pending t k small few, step.sums (pending_of t k))
 
   pub left_kept : ((t : ℕ) → t < g.tasks → d.left t + sum_below (λ k. sign (d.done t k)) (g.quota t) + sum_over (uncounted_of t) old ≡ c.left t + sum_below (λ k. sign (c.done t k)) (g.quota t) + sum_over (uncounted_of t) new)
       → (t : ℕ) → t < g.tasks → d.left t + sum_below (λ k. sign (d.done t k)) (g.quota t) ≡ g.quota t + sum_over (uncounted_of t) m
-  left_kept h t small = omega (arith, h t small, r.left t small, trade.sums (uncounted_of t))
+  left_kept h t small = omega (arith, h t small, r.left t small, step.sums (uncounted_of t))
 
   pub flags_kept : ((t : ℕ) → t < g.tasks → d.flags t ≡ c.flags t) → ((t k : ℕ) → t < g.tasks → k < g.quota t → sign (d.done t k) + sum_over (unflagged_of t k) old ≡ sign (c.done t k) + sum_over (unflagged_of t k) new)
       → (t i : ℕ) → t < g.tasks → bit_at (d.flags t) i ≡ sign (sum_below (λ k. masked (sign (d.done t k) - sum_over (unflagged_of t k) m) (bit_at (g.ends t k) i)) (g.quota t))
   flags_kept h same t i small = ap (λ n. bit_at n i) (h t small) ∙ (r.flags t i small ∙ ap sign (below_same _ _ (g.quota t)
-      (λ k few. ap (λ n. masked n (bit_at (g.ends t k) i)) (omega (arith, same t k small few, trade.sums (unflagged_of t k))))))
+      (λ k few. ap (λ n. masked n (bit_at (g.ends t k) i)) (omega (arith, same t k small few, step.sums (unflagged_of t k))))))
 
   pub open_kept : ((u : ℕ) → u < g.tasks → d.open_deps u ≡ c.open_deps u) → ((t u : ℕ) → sum_over (counted_of g t u) new ≡ sum_over (counted_of g t u) old)
       → (u : ℕ) → u < g.tasks → d.open_deps u ≡ sum_below (λ t. times u (g.successors t) - sum_over (counted_of g t u) m) g.tasks
-  open_kept h same u small = h u small ∙ (r.open_deps u small ∙ below_same _ _ g.tasks (λ t few. omega (arith, same t u, trade.sums (counted_of g t u))))
+  open_kept h same u small = h u small ∙ (r.open_deps u small ∙ below_same _ _ g.tasks (λ t few. omega (arith, same t u, step.sums (counted_of g t u))))
 
   pub state_kept : ((u : ℕ) → u < g.tasks → d.state u ≡ c.state u) → ((t u : ℕ) → sum_over (marked_of g t u) new ≡ sum_over (marked_of g t u) old)
       → (u i : ℕ) → u < g.tasks → bit_at (d.state u) i ≡ sign (sum_below (λ t. masked (sum_over (marked_of g t u) m) (bit_at (g.edges t u) i)) g.tasks)
   state_kept h same u i small = ap (λ n. bit_at n i) (h u small) ∙ (r.state u i small ∙ ap sign (below_same _ _ g.tasks
-      (λ t few. ap (λ n. masked n (bit_at (g.edges t u) i)) (omega (arith, same t u, trade.sums (marked_of g t u))))))
+      (λ t few. ap (λ n. masked n (bit_at (g.edges t u) i)) (omega (arith, same t u, step.sums (marked_of g t u))))))
 
   pub fits_kept : Grows g c d → All (Fits g d) new → All (Fits g d) m
   fits_kept grows fresh i x h = fits (get_or m i x) (Contains-get_or m i x h)
     where
       fits : (p : Duty) → Contains m p → Fits g d p
-      fits p there = ⊎_elim (λ n. All-contains (Fits g d) new p fresh n) (λ w. fits_later g c d grows p (All-contains (Fits g c) l p r.fits w)) (trade.kept p there)
+      fits p there = ⊎_elim (λ n. All-contains (Fits g d) new p fresh n) (λ w. fits_later g c d grows p (All-contains (Fits g c) l p r.fits w)) (step.kept p there)
 
 -- The duty that goes fits.
-pub goes_fits : (g : TaskGraph) (c : Counters) (l m new : List Duty) (p : Duty) → Trade l m (p ∷ []) new → IsCounted g c l → Fits g c p
-goes_fits g c l m new p trade r = All-contains (Fits g c) l p r.fits (trade.had p (one_there p))
+pub goes_fits : (g : TaskGraph) (c : Counters) (l m new : List Duty) (p : Duty) → Replaces l m (p ∷ []) new → IsCounted g c l → Fits g c p
+goes_fits g c l m new p step r = All-contains (Fits g c) l p r.fits (step.had p (one_there p))

@@ -1,4 +1,4 @@
--- How the duties of all views change if one view's do, and if a view is split or two are joined.
+-- What becomes of the duties of all views if one view replaces some, is split, or is joined with another.
 use Rattle.std.proofs.Common.{◌≡◌, ◌≢◌, ℕ, zero, suc, ◌+◌, ◌≤◌, ◌⊎◌, List, [], ◌∷◌, ◌++◌, set, get_or, append_assoc, Contains, sym, refl, ap, ◌∙◌, subst, inl, inr, ⊎_elim, arith}
 use mathlib.Core.Option.{some, some-injective, some-ne-none}
 use lib.ListN.{get_elem?}
@@ -7,8 +7,8 @@ use Rattle.std.proofs.lemmas.List.Elements.{Contains-append_left, Contains-appen
 use Rattle.plural_map.specs.declared.outcome.Outcome.{Outcome}
 use Rattle.plural_order.specs.Sums.{sum_over}
 use Rattle.plural_counters.specs.Counters.{duties_of}
-use Rattle.plural_counters.specs.Steps.{Trade, as_duties, owed_of, told_of, owed_in, told_in}
-use Rattle.plural_counters.specs.Laws.{OneViewTrades, FirstDutyTrades, SplitTrades, JoinTrades}
+use Rattle.plural_counters.specs.Steps.{Replaces, as_duties, owed_of, told_of, owed_in, told_in}
+use Rattle.plural_counters.specs.Laws.{OneViewReplaces, OneDutyReplaces, SplitKeepsDuties, JoinKeepsDuties}
 use Rattle.plural_counters.specs.declared.duty.Duty.{Duty}
 use Rattle.plural_counters.specs.declared.duty.Duty.TheVariants.{Flag, Count, Close, Tell, Decide, Arm, Told}
 use Rattle.plural_counters.proofs.Sums.{sum_append, sum_set, term_at}
@@ -38,21 +38,30 @@ module _ {V : Type 0} (duties : V → List Duty) where
       (λ t. ⊎_elim (λ a. inl a) (λ b. inr (Contains-append_right (duties x) (duties_of duties xs) p b)) (set_cases xs id w p t))
       (Contains-append_cases (duties x) (duties_of duties (set xs id w)) p c)
 
-  -- A view that lets some duties give way to others trades them, whatever the order is in which it keeps them.
-  pub trades : (views : List V) (id : ℕ) (v w : V) (old new : List Duty) → get_elem? views id ≡ some v
+  -- If a view replaces some duties by others, in any order, they are replaced in the duties of all views.
+  pub replaces : (views : List V) (id : ℕ) (v w : V) (old new : List Duty) → get_elem? views id ≡ some v
       → ((f : Duty → ℕ) → sum_over f (duties w) + sum_over f old ≡ sum_over f (duties v) + sum_over f new) → ((f : Duty → ℕ) → sum_over f old ≤ sum_over f (duties v))
       → ((p : Duty) → Contains old p → Contains (duties v) p) → ((p : Duty) → Contains (duties w) p → Contains new p ⊎ Contains (duties v) p)
-      → Trade (duties_of duties views) (duties_of duties (set views id w)) old new
-  trades views id v w old new at sums part had kept = record {
+      → Replaces (duties_of duties views) (duties_of duties (set views id w)) old new
+  replaces views id v w old new at sums part had kept = record {
     sums = λ f. omega (arith, duties_sum f views, duties_sum f (set views id w), sum_set (λ (x : V). sum_over f (duties x)) views id v w at, sums f);
     part = λ f. omega (arith, duties_sum f views, term_at (λ (x : V). sum_over f (duties x)) views id v at, part f);
     had = λ p c. duty_there views id v p at (had p c);
     kept = λ p c. ⊎_elim (λ h. ⊎_elim (λ n. inl n) (λ o. inr (duty_there views id v p at o)) (kept p h)) (λ t. inr t) (set_cases views id w p c);
   }
 
--- What one view trades is what all views trade.
-pub one_view_trades : {V : Type 0} → OneViewTrades V
-one_view_trades duties views id v w old new rest at was now = trades duties views id v w old new at
+-- A prefix of the duties is replaced.
+pub front_replaced : (old new rest : List Duty) → Replaces (old ++ rest) (new ++ rest) old new
+front_replaced old new rest = record {
+  sums = λ f. omega (arith, sum_append f old rest, sum_append f new rest);
+  part = λ f. omega (arith, sum_append f old rest);
+  had = λ p c. Contains-append_left old rest p c;
+  kept = λ p c. ⊎_elim (λ n. inl n) (λ t. inr (Contains-append_right old rest p t)) (Contains-append_cases new rest p c);
+}
+
+-- If a view replaces a prefix of its duties, it is replaced in the duties of all views.
+pub one_view_replaces : {V : Type 0} → OneViewReplaces V
+one_view_replaces duties views id v w old new rest at was now = replaces duties views id v w old new at
     (λ f. omega (arith, ap (sum_over f) was, ap (sum_over f) now, sum_append f old rest, sum_append f new rest))
     (λ f. omega (arith, ap (sum_over f) was, sum_append f old rest))
     (λ p c. subst (λ (l : List Duty). Contains l p) (sym was) (Contains-append_left old rest p c))
@@ -94,7 +103,8 @@ told_from (Decide t) p c = absurd (none_there p c)
 told_from (Arm t) p c = absurd (none_there p c)
 told_from (Told t o) p c = one_from (Told t o) p c
 
-as_append : (l m : List (ℕ × Outcome)) → as_duties (l ++ m) ≡ as_duties l ++ as_duties m
+-- What was told first and what was told then, as duties.
+pub as_append : (l m : List (ℕ × Outcome)) → as_duties (l ++ m) ≡ as_duties l ++ as_duties m
 as_append [] m = refl
 as_append (x ∷ xs) m = ap (λ (r : List Duty). Told x.0 x.1 ∷ r) (as_append xs m)
 
@@ -117,27 +127,36 @@ told_there [] p c = c
 told_there (q ∷ l) p c = ⊎_elim (λ h. head_there q p l (told_from q p h)) (λ t. tail_there q p l (told_there l p t))
     (Contains-append_cases (as_duties (told_of q)) (as_duties (told_in l)) p (subst (λ (x : List Duty). Contains x p) (as_append (told_of q) (told_in l)) c))
 
--- A view with two lists whose first duty gives way trades it.
-pub first_duty_trades : {V : Type 0} → FirstDutyTrades V
-first_duty_trades duties views id v w old new rest told at was now = trades duties views id v w (old ∷ []) new at
-    (λ f. omega (arith, ap (sum_over f) was, ap (sum_over f) now, sum_append f rest (as_duties told), sum_append f (owed_in new ++ rest) (as_duties (told_in new ++ told)), sum_append f (owed_in new) rest, ap (sum_over f) (as_append (told_in new) told), sum_append f (as_duties (told_in new)) (as_duties told), lists_sum f new))
-    (λ f. omega (arith, ap (sum_over f) was))
-    (λ p c. subst (λ (l : List Duty). Contains l p) (sym was) (Contains-append_left (old ∷ []) (rest ++ as_duties told) p c))
-    (λ p c. from p (Contains-append_cases (owed_in new ++ rest) (as_duties (told_in new ++ told)) p (subst (λ (l : List Duty). Contains l p) now c)))
+-- So it is for a view with two lists that replaces one duty.
+pub one_duty_replaces : {V : Type 0} → OneDutyReplaces V
+one_duty_replaces duties views id v w old new first rest told at was now = replaces duties views id v w (old ∷ []) new at
+    (λ f. omega (arith, had_sum f, ap (sum_over f) now, sum_append f (owed_in new ++ (first ++ rest)) (as_duties (told_in new ++ told)), sum_append f (owed_in new) (first ++ rest), sum_append f first rest, ap (sum_over f) (as_append (told_in new) told), sum_append f (as_duties (told_in new)) (as_duties told), lists_sum f new))
+    (λ f. omega (arith, had_sum f))
+    (λ p c. owed_here p (Contains-append_right first (old ∷ rest) p (Contains-append_left (old ∷ []) rest p c)))
+    (λ p c. from p (Contains-append_cases (owed_in new ++ (first ++ rest)) (as_duties (told_in new ++ told)) p (subst (λ (l : List Duty). Contains l p) now c)))
   where
-    stays : (p : Duty) → Contains (rest ++ as_duties told) p → Contains (duties v) p
-    stays p c = subst (λ (l : List Duty). Contains l p) (sym was) (tail_there old p (rest ++ as_duties told) c)
+    had_sum : (f : Duty → ℕ) → sum_over f (duties v) ≡ sum_over f first + (f old + sum_over f rest) + sum_over f (as_duties told)
+    had_sum f = ap (sum_over f) was ∙ omega (arith, sum_append f (first ++ old ∷ rest) (as_duties told), sum_append f first (old ∷ rest))
 
-    from : (p : Duty) → Contains (owed_in new ++ rest) p ⊎ Contains (as_duties (told_in new ++ told)) p → Contains new p ⊎ Contains (duties v) p
-    from p (inl c) = ⊎_elim (λ n. inl (owed_there new p n)) (λ o. inr (stays p (Contains-append_left rest (as_duties told) p o))) (Contains-append_cases (owed_in new) rest p c)
-    from p (inr c) = ⊎_elim (λ n. inl (told_there new p n)) (λ o. inr (stays p (Contains-append_right rest (as_duties told) p o)))
+    owed_here : (p : Duty) → Contains (first ++ old ∷ rest) p → Contains (duties v) p
+    owed_here p c = subst (λ (l : List Duty). Contains l p) (sym was) (Contains-append_left (first ++ old ∷ rest) (as_duties told) p c)
+
+    told_here : (p : Duty) → Contains (as_duties told) p → Contains (duties v) p
+    told_here p c = subst (λ (l : List Duty). Contains l p) (sym was) (Contains-append_right (first ++ old ∷ rest) (as_duties told) p c)
+
+    stays : (p : Duty) → Contains (first ++ rest) p → Contains (duties v) p
+    stays p c = owed_here p (⊎_elim (λ a. Contains-append_left first (old ∷ rest) p a) (λ b. Contains-append_right first (old ∷ rest) p (tail_there old p rest b)) (Contains-append_cases first rest p c))
+
+    from : (p : Duty) → Contains (owed_in new ++ (first ++ rest)) p ⊎ Contains (as_duties (told_in new ++ told)) p → Contains new p ⊎ Contains (duties v) p
+    from p (inl c) = ⊎_elim (λ n. inl (owed_there new p n)) (λ o. inr (stays p o)) (Contains-append_cases (owed_in new) (first ++ rest) p c)
+    from p (inr c) = ⊎_elim (λ n. inl (told_there new p n)) (λ o. inr (told_here p o))
         (Contains-append_cases (as_duties (told_in new)) (as_duties told) p (subst (λ (l : List Duty). Contains l p) (as_append (told_in new) told) c))
 
 -- ---- views that are split and joined
 
--- Lists of the same sums of which one has nothing that the other hasn't trade nothing.
-alike_trade : (l m : List Duty) → ((f : Duty → ℕ) → sum_over f m ≡ sum_over f l) → ((p : Duty) → Contains m p → Contains l p) → Trade l m [] []
-alike_trade l m sums there = record {
+-- Of two lists with the same sums, of which the second has nothing that the first hasn't, nothing is replaced.
+nothing_replaced : (l m : List Duty) → ((f : Duty → ℕ) → sum_over f m ≡ sum_over f l) → ((p : Duty) → Contains m p → Contains l p) → Replaces l m [] []
+nothing_replaced l m sums there = record {
   sums = λ f. omega (arith, sums f);
   part = λ f. omega arith;
   had = λ p c. absurd (none_there p c);
@@ -150,8 +169,8 @@ module _ {V : Type 0} (duties : V → List Duty) where
   views_append (v ∷ vs) m = ap (λ (r : List Duty). duties v ++ r) (views_append vs m) ∙ sym (append_assoc (duties v) (duties_of duties vs) (duties_of duties m))
 
 -- To split a view changes no duty.
-pub split_trades : {V : Type 0} → SplitTrades V
-split_trades {V} duties views id v left right at same none = alike_trade _ _
+pub split_keeps_duties : {V : Type 0} → SplitKeepsDuties V
+split_keeps_duties {V} duties views id v left right at same none = nothing_replaced _ _
     (λ f. omega (arith, duties_sum duties f views, duties_sum duties f (set views id left ++ right ∷ []), sum_append (λ (x : V). sum_over f (duties x)) (set views id left) (right ∷ []), sum_set (λ (x : V). sum_over f (duties x)) views id v left at, ap (sum_over f) same, ap (sum_over f) none))
     (λ p c. ⊎_elim (λ h. ⊎_elim (λ a. duty_there duties views id v p at (subst (λ (l : List Duty). Contains l p) same a)) (λ b. b) (set_cases duties views id left p h)) (λ t. absurd (nothing p t))
     (Contains-append_cases (duties_of duties (set views id left)) (duties_of duties (right ∷ [])) p (subst (λ (l : List Duty). Contains l p) (views_append duties (set views id left) (right ∷ [])) c)))
@@ -160,8 +179,8 @@ split_trades {V} duties views id v left right at same none = alike_trade _ _
     nothing p c = none_there p (subst (λ (l : List Duty). Contains (l ++ []) p) none c)
 
 -- To join two views changes no duty.
-pub join_trades : {V : Type 0} → JoinTrades V
-join_trades {V} duties views id other v w both spent at apart at_other whole none = alike_trade _ _
+pub join_keeps_duties : {V : Type 0} → JoinKeepsDuties V
+join_keeps_duties {V} duties views id other v w both spent at apart at_other whole none = nothing_replaced _ _
     (λ f. omega (arith, duties_sum duties f views, duties_sum duties f (set one other spent), sum_set (λ (x : V). sum_over f (duties x)) views id v both at, sum_set (λ (x : V). sum_over f (duties x)) one other w spent at_other, ap (sum_over f) whole, sum_append f (duties v) (duties w), ap (sum_over f) none))
     (λ p c. ⊎_elim (λ s. absurd (none_there p (subst (λ (l : List Duty). Contains l p) none s))) (λ o. in_one p o) (set_cases duties one other spent p c))
   where

@@ -21,22 +21,27 @@ set_at f t n u = cond (u == t) n (f u)
 abbrev pub set_at_pair : (f : ℕ → ℕ → ℕ) → (t k n : ℕ) → ℕ → ℕ → ℕ
 set_at_pair f t k n u l = cond (u == t) (set_at (f u) k n l) (f u l)
 
--- The counters with one word set to n.
+-- The counters with n for alloc of task t.
 abbrev pub with_alloc : Counters → (t n : ℕ) → Counters
 with_alloc c t n = record c { alloc = set_at c.alloc t n }
 
+-- The counters with n for done of instance k of task t.
 abbrev pub with_done : Counters → (t k n : ℕ) → Counters
 with_done c t k n = record c { done = set_at_pair c.done t k n }
 
+-- The counters with n for flags of task t.
 abbrev pub with_flags : Counters → (t n : ℕ) → Counters
 with_flags c t n = record c { flags = set_at c.flags t n }
 
+-- The counters with n for left of task t.
 abbrev pub with_left : Counters → (t n : ℕ) → Counters
 with_left c t n = record c { left = set_at c.left t n }
 
+-- The counters with n for state of task t.
 abbrev pub with_state : Counters → (t n : ℕ) → Counters
 with_state c t n = record c { state = set_at c.state t n }
 
+-- The counters with n open dependencies of task t.
 abbrev pub with_open : Counters → (t n : ℕ) → Counters
 with_open c t n = record c { open_deps = set_at c.open_deps t n }
 
@@ -51,17 +56,17 @@ pub record IsSame (g : TaskGraph) (c d : Counters) : Type 0 where
 
 -- ---- duties
 
--- The duties `old` of l give way to `new`, and m has what then is there, in any order: each sum moves by what comes
--- less what goes; what goes was there; and what is there then came, or was there.
-pub record Trade (l m old new : List Duty) : Type 0 where
+-- The list m has the duties of l with `new` in place of `old`, in any order: each sum over them moves by what comes less
+-- what goes; what goes was there; and what is there then came, or was there.
+pub record Replaces (l m old new : List Duty) : Type 0 where
   pub sums : (f : Duty → ℕ) → sum_over f m + sum_over f old ≡ sum_over f l + sum_over f new
   pub part : (f : Duty → ℕ) → sum_over f old ≤ sum_over f l
   pub had : (p : Duty) → Contains old p → Contains l p
   pub kept : (p : Duty) → Contains m p → Contains new p ⊎ Contains l p
 
--- A step that lets `old` give way to `new`, and after which the counters are e, keeps the rule.
+-- A step that replaces `old` by `new`, and after which the counters are e, keeps the rule.
 abbrev pub Keeps : TaskGraph → List Duty → (old new : List Duty) → (e : Counters) → Type 0
-Keeps g l old new e = (m : List Duty) (d : Counters) → Trade l m old new → IsSame g e d → IsCounted g d m
+Keeps g l old new e = (m : List Duty) (d : Counters) → Replaces l m old new → IsSame g e d → IsCounted g d m
 
 -- What there is of a task that begins to be told: it is told to its first successor, or was told if it has none.
 abbrev pub tell_first : (successors : List ℕ) → (t : ℕ) → Outcome → List Duty

@@ -1,8 +1,9 @@
 //! Laws of the rule over counters and duties: what each step keeps, and what follows.
 ghost use Rattle.plural_counters.specs.Laws.{Stays, HandsOut, Finishes, Marks, CountsOff, LoadsFlags};
-ghost use Rattle.plural_counters.specs.Laws.{MarksEdge, CountsEdge, LoadsState, Arms, OneViewTrades, FirstDutyTrades};
-ghost use Rattle.plural_counters.specs.Laws.{SplitTrades, JoinTrades, ViewsAreSound, RoomForPhases, ProgressBounded};
-ghost use Rattle.plural_counters.specs.Laws.{FirstCounted, ProgramCounted, AllTold};
+ghost use Rattle.plural_counters.specs.Laws.{MarksEdge, CountsEdge, LoadsState, Arms, PendingDone};
+ghost use Rattle.plural_counters.specs.Laws.{OneViewReplaces, OneDutyReplaces, SplitKeepsDuties, JoinKeepsDuties};
+ghost use Rattle.plural_counters.specs.Laws.{ViewsAreSound, RoomForPhases, ProgressBounded, FirstCounted};
+ghost use Rattle.plural_counters.specs.Laws.{ProgramCounted, AllTold, EachDutyOwed};
 
 /// A step on another word that changes no duty keeps the rule.
 pub fn stay()
@@ -54,24 +55,29 @@ pub fn arm()
     ensures { Arms }
 {}
 
-/// What one view trades is what all views trade.
-pub fn one_view_trades<V>()
-    ensures { OneViewTrades V }
+/// An instance that is to be flagged or counted is done.
+pub fn pending_done()
+    ensures { PendingDone }
 {}
 
-/// So it is of a view with two lists, of what it owes and what it was told.
-pub fn first_duty_trades<V>()
-    ensures { FirstDutyTrades V }
+/// If one view replaces duties by others, they are replaced in the duties of all views.
+pub fn one_view_replaces<V>()
+    ensures { OneViewReplaces V }
+{}
+
+/// So it is for a view with two lists, of what it owes and what it was told.
+pub fn one_duty_replaces<V>()
+    ensures { OneDutyReplaces V }
 {}
 
 /// To split a view changes no duty.
-pub fn split_trades<V>()
-    ensures { SplitTrades V }
+pub fn split_keeps_duties<V>()
+    ensures { SplitKeepsDuties V }
 {}
 
 /// To join two views changes no duty.
-pub fn join_trades<V>()
-    ensures { JoinTrades V }
+pub fn join_keeps_duties<V>()
+    ensures { JoinKeepsDuties V }
 {}
 
 /// The duties of each view are sound.
@@ -102,4 +108,9 @@ pub fn program_counted()
 /// Once nothing is owed and all that was armed is done, each task was told its outcome.
 pub fn all_told()
     ensures { AllTold }
+{}
+
+/// Each kind of duty can be owed under the rule, with what its step wants besides: no law of a step is empty.
+pub fn each_duty_owed()
+    ensures { EachDutyOwed }
 {}
