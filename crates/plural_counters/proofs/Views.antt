@@ -3,6 +3,7 @@ use Rattle.std.proofs.Common.{◌≡◌, ◌≢◌, ℕ, zero, suc, ◌+◌, ◌
 use mathlib.Core.Option.{some, some-injective, some-ne-none}
 use lib.ListN.{get_elem?}
 use Rattle.std.proofs.lemmas.Bool.{cases_eq}
+use Rattle.std.proofs.lemmas.List.{map-append}
 use Rattle.std.proofs.lemmas.List.Elements.{Contains-append_left, Contains-append_right, Contains-append_cases}
 use Rattle.plural_map.specs.declared.outcome.Outcome.{Outcome}
 use Rattle.plural_order.specs.Sums.{sum_over}
@@ -39,7 +40,7 @@ module _ {V : Type 0} (duties : V → List Duty) where
       (Contains-append_cases (duties x) (duties_of duties (set xs id w)) p c)
 
   -- If a view replaces some duties by others, in any order, they are replaced in the duties of all views.
-  pub replaces : (views : List V) (id : ℕ) (v w : V) (old new : List Duty) → get_elem? views id ≡ some v
+  replaces : (views : List V) (id : ℕ) (v w : V) (old new : List Duty) → get_elem? views id ≡ some v
       → ((f : Duty → ℕ) → sum_over f (duties w) + sum_over f old ≡ sum_over f (duties v) + sum_over f new) → ((f : Duty → ℕ) → sum_over f old ≤ sum_over f (duties v))
       → ((p : Duty) → Contains old p → Contains (duties v) p) → ((p : Duty) → Contains (duties w) p → Contains new p ⊎ Contains (duties v) p)
       → Replaces (duties_of duties views) (duties_of duties (set views id w)) old new
@@ -103,10 +104,8 @@ told_from (Decide t) p c = absurd (none_there p c)
 told_from (Arm t) p c = absurd (none_there p c)
 told_from (Told t o) p c = one_from (Told t o) p c
 
--- What was told first and what was told then, as duties.
-pub as_append : (l m : List (ℕ × Outcome)) → as_duties (l ++ m) ≡ as_duties l ++ as_duties m
-as_append [] m = refl
-as_append (x ∷ xs) m = ap (λ (r : List Duty). Told x.0 x.1 ∷ r) (as_append xs m)
+as_append : (l m : List (ℕ × Outcome)) → as_duties (l ++ m) ≡ as_duties l ++ as_duties m
+as_append l m = map-append (λ (x : ℕ × Outcome). Told x.0 x.1) l m
 
 lists_sum : (f : Duty → ℕ) (l : List Duty) → sum_over f (owed_in l) + sum_over f (as_duties (told_in l)) ≡ sum_over f l
 lists_sum f [] = refl

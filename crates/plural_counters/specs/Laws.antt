@@ -17,7 +17,8 @@ use Rattle.plural_order.specs.ProgramGraph.{graph_of}
 use Rattle.plural_counters.specs.Duties.{phase_of, pending_of, phases_of, progress_of, MayRun, IsTold}
 use Rattle.plural_counters.specs.Counters.{Counters, IsCounted, duties_of, Counted, IsSound, first_counters}
 use Rattle.plural_counters.specs.Steps.{with_alloc, with_done, with_flags, with_left, with_state, with_open, IsSame}
-use Rattle.plural_counters.specs.Steps.{Replaces, Keeps, tell_first, tell_next, on_decision, as_duties, owed_in, told_in}
+use Rattle.plural_counters.specs.Steps.{Replaces, Keeps, tell_first, tell_next, on_decision}
+use Rattle.plural_counters.specs.Steps.{as_duties, owed_in, told_in}
 use Rattle.plural_counters.specs.declared.duty.Duty.{Duty}
 use Rattle.plural_counters.specs.declared.duty.Duty.TheVariants.{Flag, Count, Close, Tell, Decide, Arm, Told}
 
@@ -73,8 +74,8 @@ MarksEdge = (g : TaskGraph) (c : Counters) (l : List Duty) (t : ℕ) (o : Outcom
     → slice_get (g.successors t) e ≡ Some u
     → Keeps g l (Tell t o e false ∷ []) (Tell t o e true ∷ []) (with_state c u (bit_or (c.state u) (g.edges t u)))
 
--- Some dependency of the successor u is open, and after one is counted there is one less; if it was the last, u is to be
--- decided; and task t is told to its next successor.
+-- Some dependency of the successor u is open, and after one is counted there is one less; if it was the last, u is to
+-- be decided; and task t is told to its next successor.
 pub record IsEdgeCounted (g : TaskGraph) (c : Counters) (l : List Duty) (t : ℕ) (o : Outcome) (e u : ℕ)
     : Type 0 where
   pub task : u < g.tasks

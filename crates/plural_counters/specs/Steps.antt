@@ -56,8 +56,8 @@ pub record IsSame (g : TaskGraph) (c d : Counters) : Type 0 where
 
 -- ---- duties
 
--- The list m has the duties of l with `new` in place of `old`, in any order: each sum over them moves by what comes less
--- what goes; what goes was there; and what is there then came, or was there.
+-- The list m has the duties of l with `new` in place of `old`, in any order: each sum over them moves by what comes
+-- less what goes; what goes was there; and what is there then came, or was there.
 pub record Replaces (l m old new : List Duty) : Type 0 where
   pub sums : (f : Duty → ℕ) → sum_over f m + sum_over f old ≡ sum_over f l + sum_over f new
   pub part : (f : Duty → ℕ) → sum_over f old ≤ sum_over f l
