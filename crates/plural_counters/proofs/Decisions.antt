@@ -17,10 +17,10 @@ use Rattle.plural_counters.specs.Laws.{decision_of_state, LoadsState, Arms}
 use Rattle.plural_counters.specs.declared.duty.Duty.{Duty}
 use Rattle.plural_counters.specs.declared.duty.Duty.TheVariants.{Flag, Count, Close, Tell, Decide, Arm, Told}
 use Rattle.plural_counters.proofs.Sums.{one_same, one_else, equal_else, sign_none, sign_some, sign_le, sign_no, mask_shut, mask_open, term_in, sum_le, sum_none, sum_some}
-use Rattle.plural_counters.proofs.Duties.{counted_marked, marked_none}
+use Rattle.plural_counters.proofs.Duties.{alone_none, alone_decide, alone_arm, counted_marked, marked_none}
 use Rattle.plural_counters.proofs.Parts.{set_here, set_else, Grows, all_one}
 use Rattle.plural_counters.proofs.Parts as part
-use Rattle.plural_counters.proofs.Instances.{grows_same, same_count, tell_keeps}
+use Rattle.plural_counters.proofs.Instances.{tell_keeps}
 
 -- ---- decided
 
@@ -65,25 +65,16 @@ module _ (g : TaskGraph) (c : Counters) (l : List Duty) (u : ℕ) (r : IsCounted
 
   -- It is to be armed.
   run_keeps : decision_by g u ≡ decision.Run → Keeps g l (Decide u ∷ []) (Arm u ∷ []) c
-  run_keeps run m d step s =
-      let grows = grows_same g c d r.graph s in
-      record {
-        graph = r.graph;
-        phase = part.phase_kept g c d l m _ _ step r (λ x h. omega (arith, ap sign (s.open_deps x h), ap (λ y. running y (d.left x)) (s.alloc x h), ap (λ y. running (c.alloc x) y) (s.left x h)));
-        unarmed = part.unarmed_kept g c d l m _ _ step r (λ x h. omega (arith, ap sign (s.open_deps x h), ap sign (s.alloc x h)));
-        pending = part.pending_kept g c d l m _ _ step r (λ x k h i. omega (arith, ap sign (s.done x k h i)));
-        left = part.left_kept g c d l m _ _ step r (λ x h. omega (arith, same_count g c d x (λ k i. s.done x k h i), s.left x h));
-        flags = part.flags_kept g c d l m _ _ step r s.flags (λ x k h i. omega (arith, ap sign (s.done x k h i)));
-        open_deps = part.open_kept g c d l m _ _ step r s.open_deps (λ z x. refl);
-        state = part.state_kept g c d l m _ _ step r s.state (λ z x. refl);
-        fits = part.fits_kept g c d l m _ _ step r grows (all_one (Fits g d) (Arm u) (
-          small,
-          record {
-            runs = λ k h. r.graph.runs u k small run h;
-            earlier = λ x i ran b. grows.done x i ran (earlier_done x i ran b);
-          },
-        ));
-      }
+  run_keeps run m d step s = part.phase_keeps g c d l m _ _ step r (part.same_alloc g c d s) (alone_decide g u) (alone_arm g u)
+      (λ x h. omega (arith, ap (λ n. running n (c.left x)) (s.alloc x h)))
+      (λ x h. omega (arith, ap sign (s.alloc x h)))
+      (λ grows. all_one (Fits g d) (Arm u) (
+        small,
+        record {
+          runs = λ k h. r.graph.runs u k small run h;
+          earlier = λ x i ran b. grows.done x i ran (earlier_done x i ran b);
+        },
+      ))
 
   ended_unrun : ((k : ℕ) → g.ran u k ≡ false) → HasEnded g c.done u
   ended_unrun none = record { own = λ k ran. absurd (let f : true ≡ false = sym ran ∙ none k in cc); earlier = earlier_done }
@@ -93,10 +84,10 @@ module _ (g : TaskGraph) (c : Counters) (l : List Duty) (u : ℕ) (r : IsCounted
   decide_keeps decision.Run e = run_keeps e
   decide_keeps decision.Skip e =
       let none = r.graph.skips u small e in
-      tell_keeps g c l u outcome.Skipped (Decide u) r small (sym none.0) (ended_unrun none.1) (λ x. refl) (λ x k. (refl, refl)) (λ x y. (refl, refl))
+      tell_keeps g c l u outcome.Skipped (Decide u) r small (sym none.0) (ended_unrun none.1) (alone_decide g u) (λ x. refl)
   decide_keeps decision.Fail e =
       let none = r.graph.fails u small e in
-      tell_keeps g c l u outcome.Failed (Decide u) r small (sym none.0) (ended_unrun none.1) (λ x. refl) (λ x k. (refl, refl)) (λ x y. (refl, refl))
+      tell_keeps g c l u outcome.Failed (Decide u) r small (sym none.0) (ended_unrun none.1) (alone_decide g u) (λ x. refl)
 
 -- To decide a task keeps the rule.
 pub load_state : LoadsState
@@ -113,27 +104,24 @@ arm_keeps g c l t r small was undone m d step s =
     let else : (x : ℕ) → x < g.tasks → x ≢ t → d.alloc x ≡ c.alloc x = λ x h ne. s.alloc x h ∙ set_else c.alloc t 1 x ne in
     let none : sum_below (λ k. sign (c.done t k)) (g.quota t) ≡ 0 = below_none (λ k. sign (c.done t k)) (g.quota t) (λ k h. sign_none (c.done t k) (undone k h)) in
     let some_left : 1 ≤ c.left t = omega (arith, none, r.left t small, r.graph.quota_some t small) in
-    record {
-      graph = r.graph;
-      phase = part.phase_kept g c d l m _ _ step r (λ x h. dite (ℕ_discrete x t)
-          (λ e. subst (λ (y : ℕ). sign (d.open_deps y) + 0 + running (d.alloc y) (d.left y) ≡ sign (c.open_deps y) + sum_over (phase_of y) (Arm t ∷ []) + running (c.alloc y) (c.left y)) (sym e)
-          (omega (arith, ap sign (s.open_deps t small), one_same t t refl, mask_shut (c.alloc t) (sign (c.left t)) was, mask_open (d.alloc t) (sign (d.left t)) (omega (arith, now)), sign_some (d.left t) (omega (arith, s.left t small, some_left)))))
-          (λ ne. omega (arith, ap sign (s.open_deps x h), one_else t x (λ q. ne (sym q)), ap (λ n. running n (d.left x)) (else x h ne), ap (λ n. running (c.alloc x) n) (s.left x h))));
-      unarmed = part.unarmed_kept g c d l m _ _ step r (λ x h. dite (ℕ_discrete x t)
-          (λ e. subst (λ (y : ℕ). sign (d.open_deps y) + 0 + sign (d.alloc y) ≤ sign (c.open_deps y) + sum_over (unarmed_of y) (Arm t ∷ []) + sign (c.alloc y)) (sym e)
-          (omega (arith, ap sign (s.open_deps t small), one_same t t refl, sign_le (d.alloc t))))
-          (λ ne. omega (arith, ap sign (s.open_deps x h), ap sign (else x h ne))));
-      pending = part.pending_kept g c d l m _ _ step r (λ x k h i. omega (arith, ap sign (s.done x k h i)));
-      left = part.left_kept g c d l m _ _ step r (λ x h. omega (arith, same_count g c d x (λ k i. s.done x k h i), s.left x h));
-      flags = part.flags_kept g c d l m _ _ step r s.flags (λ x k h i. omega (arith, ap sign (s.done x k h i)));
-      open_deps = part.open_kept g c d l m _ _ step r s.open_deps (λ z x. refl);
-      state = part.state_kept g c d l m _ _ step r s.state (λ z x. refl);
-      fits = part.fits_kept g c d l m _ _ step r (record {
-        done = λ x i ran h. let j = r.graph.ran_instances x i ran in omega (arith, s.done x i j.0 j.1);
-        alloc = λ x h. dite (ℕ_discrete x t) (λ e. omega (arith, ap c.alloc e, was)) (λ ne. omega (arith, else x h ne));
-        left = λ x h z. omega (arith, s.left x h);
-      }) (All-nil (Fits g d));
-    }
+    part.phase_keeps g c d l m _ _ step r
+    (record {
+      alloc = λ x h. dite (ℕ_discrete x t) (λ e. omega (arith, ap c.alloc e, was)) (λ ne. omega (arith, else x h ne));
+      done = s.done;
+      flags = s.flags;
+      left = s.left;
+      state = s.state;
+      open_deps = s.open_deps;
+    })
+    (alone_arm g t) (alone_none g)
+    (λ x h. dite (ℕ_discrete x t)
+    (λ e. subst (λ (y : ℕ). 0 + running (d.alloc y) (c.left y) ≡ sum_over (phase_of y) (Arm t ∷ []) + running (c.alloc y) (c.left y)) (sym e)
+    (omega (arith, one_same t t refl, mask_shut (c.alloc t) (sign (c.left t)) was, mask_open (d.alloc t) (sign (c.left t)) (omega (arith, now)), sign_some (c.left t) some_left)))
+    (λ ne. omega (arith, one_else t x (λ q. ne (sym q)), ap (λ n. running n (c.left x)) (else x h ne))))
+    (λ x h. dite (ℕ_discrete x t)
+    (λ e. subst (λ (y : ℕ). 0 + sign (d.alloc y) ≤ sum_over (unarmed_of y) (Arm t ∷ []) + sign (c.alloc y)) (sym e) (omega (arith, one_same t t refl, sign_le (d.alloc t))))
+    (λ ne. omega (arith, ap sign (else x h ne))))
+    (λ _. All-nil (Fits g d))
 
 -- To arm a task keeps the rule.
 pub arm : Arms

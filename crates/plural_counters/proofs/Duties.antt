@@ -5,7 +5,7 @@ use native.Mathlib.Decide.{ℕ_discrete}
 use Rattle.plural_map.specs.declared.outcome.Outcome.{Outcome}
 use Rattle.plural_order.specs.Sums.{sum_over, one_if, times}
 use Rattle.plural_order.specs.TaskGraph.{TaskGraph}
-use Rattle.plural_counters.specs.Duties.{one_of, phase_of, unarmed_of, telling_of, uncounted_of, pending_of, unflagged_of, reached, counted_of, marked_of}
+use Rattle.plural_counters.specs.Duties.{if_equal, one_of, phase_of, unarmed_of, telling_of, uncounted_of, pending_of, unflagged_of, reached, counted_of, marked_of}
 use Rattle.plural_counters.specs.Steps.{tell_first}
 use Rattle.plural_counters.specs.declared.duty.Duty.{Duty}
 use Rattle.plural_counters.specs.declared.duty.Duty.TheVariants.{Flag, Count, Close, Tell, Decide, Arm, Told}
@@ -105,38 +105,54 @@ module _ (g : TaskGraph) (t u : ℕ) where
   marked_none none (Arm x) = refl
   marked_none none (Told x o) = dite (ℕ_discrete x t) (λ d. equal_same x t _ d ∙ none) (λ ne. equal_else x t _ ne)
 
--- ---- a task that begins to be told
+-- ---- duties that say phases alone
 
-module _ (t : ℕ) (o : Outcome) where
-  -- It is in a phase.
-  pub first_phase : (l : List ℕ) (x : ℕ) → sum_over (phase_of x) (tell_first l t o) ≡ one_if t x
-  first_phase [] x = omega arith
-  first_phase (y ∷ ys) x = omega arith
+-- They say nothing of instances, and no dependency is counted or marked by them.
+pub record IsPhaseAlone (g : TaskGraph) (l : List Duty) : Type 0 where
+  pub uncounted : (x : ℕ) → sum_over (uncounted_of x) l ≡ 0
+  pub pending : (x k : ℕ) → sum_over (pending_of x k) l ≡ 0
+  pub unflagged : (x k : ℕ) → sum_over (unflagged_of x k) l ≡ 0
+  pub counted : (x u : ℕ) → sum_over (counted_of g x u) l ≡ 0
+  pub marked : (x u : ℕ) → sum_over (marked_of g x u) l ≡ 0
 
-  -- It says nothing of arming.
-  pub first_unarmed : (l : List ℕ) (x : ℕ) → sum_over (unarmed_of x) (tell_first l t o) ≡ 0
-  first_unarmed [] x = refl
-  first_unarmed (y ∷ ys) x = refl
+-- So it is of no duty.
+pub alone_none : (g : TaskGraph) → IsPhaseAlone g []
+alone_none g = record { uncounted = λ x. refl; pending = λ x k. refl; unflagged = λ x k. refl; counted = λ x u. refl; marked = λ x u. refl }
 
-  -- Nor of instances.
-  pub first_uncounted : (l : List ℕ) (x : ℕ) → sum_over (uncounted_of x) (tell_first l t o) ≡ 0
-  first_uncounted [] x = refl
-  first_uncounted (y ∷ ys) x = refl
+-- Of a task to be closed.
+pub alone_close : (g : TaskGraph) (t : ℕ) → IsPhaseAlone g (Close t ∷ [])
+alone_close g t = record { uncounted = λ x. refl; pending = λ x k. refl; unflagged = λ x k. refl; counted = λ x u. refl; marked = λ x u. refl }
 
-  pub first_unflagged : (l : List ℕ) (x k : ℕ) → sum_over (unflagged_of x k) (tell_first l t o) ≡ 0
-  first_unflagged [] x k = refl
-  first_unflagged (y ∷ ys) x k = refl
+-- Of a task to be decided.
+pub alone_decide : (g : TaskGraph) (t : ℕ) → IsPhaseAlone g (Decide t ∷ [])
+alone_decide g t = record { uncounted = λ x. refl; pending = λ x k. refl; unflagged = λ x k. refl; counted = λ x u. refl; marked = λ x u. refl }
 
-  pub first_pending : (l : List ℕ) (x k : ℕ) → sum_over (pending_of x k) (tell_first l t o) ≡ 0
-  first_pending [] x k = refl
-  first_pending (y ∷ ys) x k = refl
+-- Of a task to be armed.
+pub alone_arm : (g : TaskGraph) (t : ℕ) → IsPhaseAlone g (Arm t ∷ [])
+alone_arm g t = record { uncounted = λ x. refl; pending = λ x k. refl; unflagged = λ x k. refl; counted = λ x u. refl; marked = λ x u. refl }
 
-  -- No dependency is counted yet.
-  pub first_counted : (g : TaskGraph) (l : List ℕ) → g.successors t ≡ l → (x u : ℕ) → sum_over (counted_of g x u) (tell_first l t o) ≡ 0
-  first_counted g [] is x u = dite (ℕ_discrete t x) (λ e. omega (arith, equal_same t x (times u (g.successors x)) e, ap (λ (n : ℕ). times u (g.successors n)) (sym e), ap (times u) is)) (λ ne. omega (arith, equal_else t x (times u (g.successors x)) ne))
-  first_counted g (y ∷ ys) is x u = dite (ℕ_discrete t x) (λ e. omega (arith, equal_same t x (reached g x u 0) e)) (λ ne. omega (arith, equal_else t x (reached g x u 0) ne))
+-- And of a task that begins to be told.
+pub alone_first : (g : TaskGraph) (t : ℕ) (o : Outcome) → IsPhaseAlone g (tell_first (g.successors t) t o)
+alone_first g t o = by (g.successors t) refl
+  where
+    by : (l : List ℕ) → g.successors t ≡ l → IsPhaseAlone g (tell_first l t o)
+    by [] e =
+        let none : (x u : ℕ) → if_equal t x (times u (g.successors x)) ≡ 0 = λ x u. dite (ℕ_discrete t x)
+        (λ q. omega (arith, equal_same t x (times u (g.successors x)) q, ap (λ (n : ℕ). times u (g.successors n)) (sym q), ap (times u) e))
+        (λ q. equal_else t x (times u (g.successors x)) q) in
+        record { uncounted = λ x. refl; pending = λ x k. refl; unflagged = λ x k. refl; counted = λ x u. omega (arith, none x u); marked = λ x u. omega (arith, none x u) }
+    by (y ∷ ys) e =
+        let none : (x u n : ℕ) → n ≡ 0 → if_equal t x (reached g x u n) ≡ 0 = λ x u n z. dite (ℕ_discrete t x)
+        (λ q. equal_same t x (reached g x u n) q ∙ ap (λ (i : ℕ). reached g x u i) z)
+        (λ q. equal_else t x (reached g x u n) q) in
+        record { uncounted = λ x. refl; pending = λ x k. refl; unflagged = λ x k. refl; counted = λ x u. omega (arith, none x u 0 refl); marked = λ x u. omega (arith, none x u (0 + 0) refl) }
 
-  -- Nor is one marked.
-  pub first_marked : (g : TaskGraph) (l : List ℕ) → g.successors t ≡ l → (x u : ℕ) → sum_over (marked_of g x u) (tell_first l t o) ≡ 0
-  first_marked g [] is x u = dite (ℕ_discrete t x) (λ e. omega (arith, equal_same t x (times u (g.successors x)) e, ap (λ (n : ℕ). times u (g.successors n)) (sym e), ap (times u) is)) (λ ne. omega (arith, equal_else t x (times u (g.successors x)) ne))
-  first_marked g (y ∷ ys) is x u = dite (ℕ_discrete t x) (λ e. omega (arith, equal_same t x (reached g x u (0 + 0)) e)) (λ ne. omega (arith, equal_else t x (reached g x u (0 + 0)) ne))
+-- A task that begins to be told is in a phase.
+pub first_phase : (t : ℕ) (o : Outcome) (l : List ℕ) (x : ℕ) → sum_over (phase_of x) (tell_first l t o) ≡ one_if t x
+first_phase t o [] x = omega arith
+first_phase t o (y ∷ ys) x = omega arith
+
+-- It isn't to be armed.
+pub first_unarmed : (t : ℕ) (o : Outcome) (l : List ℕ) (x : ℕ) → sum_over (unarmed_of x) (tell_first l t o) ≡ 0
+first_unarmed t o [] x = refl
+first_unarmed t o (y ∷ ys) x = refl

@@ -17,10 +17,9 @@ use Rattle.plural_counters.specs.Laws.{MarksEdge, CountsEdge}
 use Rattle.plural_counters.specs.declared.duty.Duty.{Duty}
 use Rattle.plural_counters.specs.declared.duty.Duty.TheVariants.{Tell, Decide, Told}
 use Rattle.plural_counters.proofs.Sums.{one_same, one_else, equal_same, equal_else, sign_none, sign_some, mask_open, mask_le, sign_or, sum_append, term_in, sum_le, sum_add, below_change, below_term}
-use Rattle.plural_counters.proofs.Duties.{telling_phase, times_next, times_take, place_within, counted_telling}
-use Rattle.plural_counters.proofs.Parts.{set_here, set_else, Grows, all_one, goes_fits}
+use Rattle.plural_counters.proofs.Duties.{IsPhaseAlone, alone_none, alone_decide, telling_phase, times_next, times_take, place_within, counted_telling}
+use Rattle.plural_counters.proofs.Parts.{set_here, set_else, Grows, same_count, all_one, goes_fits}
 use Rattle.plural_counters.proofs.Parts as part
-use Rattle.plural_counters.proofs.Instances.{same_count}
 
 zero_more : (n : ℕ) → n + 0 ≡ n
 zero_more n = omega arith
@@ -45,11 +44,7 @@ module _ (g : TaskGraph) (c : Counters) (l : List Duty) (t : ℕ) (o : Outcome) 
       let n = bit_or (c.state u) (g.edges t u) in
       let had = goes_fits g c l m _ (Tell t o e false) step r in
       let small : t < g.tasks = had.0 in
-      let grows : Grows g c d = record {
-        done = λ x i ran h. let j = r.graph.ran_instances x i ran in omega (arith, s.done x i j.0 j.1);
-        alloc = λ x h. omega (arith, s.alloc x h);
-        left = λ x h z. omega (arith, s.left x h);
-      } in
+      let grows : Grows g c d = part.grows_by g c d r.graph s.done (λ x h. omega (arith, s.alloc x h)) (λ x h z. omega (arith, s.left x h)) in
       record {
         graph = r.graph;
         phase = part.phase_kept g c d l m _ _ step r (λ x h. omega (arith, ap sign (s.open_deps x h), ap (λ y. running y (d.left x)) (s.alloc x h), ap (λ y. running (c.alloc x) y) (s.left x h)));
@@ -124,39 +119,27 @@ module _ (g : TaskGraph) (c : Counters) (l : List Duty) (t : ℕ) (o : Outcome) 
 
   -- What the duties that come besides say: the successor is to be decided if it has nothing open any more.
   record IsBesides (d : Counters) (extra : List Duty) : Type 0 where
+    pub alone : IsPhaseAlone g extra
     pub phase : (x : ℕ) → x < g.tasks → sign (d.open_deps x) + sum_over (phase_of x) extra ≡ sign (c.open_deps x)
     pub unarmed : (x : ℕ) → sum_over (unarmed_of x) extra ≡ sum_over (phase_of x) extra
-    pub uncounted : (x : ℕ) → sum_over (uncounted_of x) extra ≡ 0
-    pub pending : (x k : ℕ) → sum_over (pending_of x k) extra ≡ 0
-    pub unflagged : (x k : ℕ) → sum_over (unflagged_of x k) extra ≡ 0
-    pub counted : (z x : ℕ) → sum_over (counted_of g z x) extra ≡ 0
-    pub marked : (z x : ℕ) → sum_over (marked_of g z x) extra ≡ 0
     pub fits : All (Fits g d) extra
 
   besides : (d : Counters) → 1 ≤ c.open_deps u → d.open_deps u ≡ c.open_deps u - 1 → ((x : ℕ) → x < g.tasks → x ≢ u → d.open_deps x ≡ c.open_deps x) → IsBesides d (cond (c.open_deps u == 1) (Decide u ∷ []) [])
   besides d some here else = dite (ℕ_discrete (c.open_deps u) 1)
       (λ one. subst (λ b. IsBesides d (cond b (Decide u ∷ []) [])) (sym (eq-eqb (c.open_deps u) 1 one)) (record {
+        alone = alone_decide g u;
         phase = λ x h. dite (ℕ_discrete x u)
             (λ q. subst (λ (y : ℕ). sign (d.open_deps y) + sum_over (phase_of y) (Decide u ∷ []) ≡ sign (c.open_deps y)) (sym q) (omega (arith, one_same u u refl, sign_some (c.open_deps u) some, sign_none (d.open_deps u) (omega (arith, one, here)))))
             (λ ne. omega (arith, one_else u x (λ q. ne (sym q)), ap sign (else x h ne)));
         unarmed = λ x. refl;
-        uncounted = λ x. refl;
-        pending = λ x k. refl;
-        unflagged = λ x k. refl;
-        counted = λ z x. refl;
-        marked = λ z x. refl;
         fits = all_one (Fits g d) (Decide u) successor_small;
       }))
       (λ other. subst (λ b. IsBesides d (cond b (Decide u ∷ []) [])) (sym (ne_eqb (c.open_deps u) 1 other)) (record {
+        alone = alone_none g;
         phase = λ x h. dite (ℕ_discrete x u)
             (λ q. subst (λ (y : ℕ). sign (d.open_deps y) + 0 ≡ sign (c.open_deps y)) (sym q) (omega (arith, sign_some (c.open_deps u) some, sign_some (d.open_deps u) (dite (ℕ_discrete (d.open_deps u) 0) (λ z. absurd (other (omega (arith, here)))) (λ z. omega arith)))))
             (λ ne. omega (arith, ap sign (else x h ne)));
         unarmed = λ x. refl;
-        uncounted = λ x. refl;
-        pending = λ x k. refl;
-        unflagged = λ x k. refl;
-        counted = λ z x. refl;
-        marked = λ z x. refl;
         fits = All-nil (Fits g d);
       }))
 
@@ -169,23 +152,19 @@ module _ (g : TaskGraph) (c : Counters) (l : List Duty) (t : ℕ) (o : Outcome) 
       let else : (x : ℕ) → x < g.tasks → x ≢ u → d.open_deps x ≡ c.open_deps x = λ x h ne. s.open_deps x h ∙ set_else c.open_deps u (c.open_deps u - 1) x ne in
       let more = besides d some here else in
       let sum : (f : Duty → ℕ) → sum_over f (extra ++ next) ≡ sum_over f extra + sum_over f next = λ f. sum_append f extra next in
-      let grows : Grows g c d = record {
-        done = λ x i ran h. let j = r.graph.ran_instances x i ran in omega (arith, s.done x i j.0 j.1);
-        alloc = λ x h. omega (arith, s.alloc x h);
-        left = λ x h z. omega (arith, s.left x h);
-      } in
+      let grows : Grows g c d = part.grows_by g c d r.graph s.done (λ x h. omega (arith, s.alloc x h)) (λ x h z. omega (arith, s.left x h)) in
       record {
         graph = r.graph;
         phase = part.phase_kept g c d l m _ _ step r (λ x h. omega (arith, sum (phase_of x), n.phase x, more.phase x h, ap (λ y. running y (d.left x)) (s.alloc x h), ap (λ y. running (c.alloc x) y) (s.left x h)));
         unarmed = part.unarmed_kept g c d l m _ _ step r (λ x h. omega (arith, sum (unarmed_of x), n.unarmed x, more.phase x h, more.unarmed x, ap sign (s.alloc x h)));
-        pending = part.pending_kept g c d l m _ _ step r (λ x i h j. omega (arith, sum (pending_of x i), n.pending x i, more.pending x i, ap sign (s.done x i h j)));
-        left = part.left_kept g c d l m _ _ step r (λ x h. omega (arith, sum (uncounted_of x), n.uncounted x, more.uncounted x, same_count g c d x (λ i j. s.done x i h j), s.left x h));
-        flags = part.flags_kept g c d l m _ _ step r s.flags (λ x i h j. omega (arith, sum (unflagged_of x i), n.unflagged x i, more.unflagged x i, ap sign (s.done x i h j)));
+        pending = part.pending_kept g c d l m _ _ step r (λ x i h j. omega (arith, sum (pending_of x i), n.pending x i, more.alone.pending x i, ap sign (s.done x i h j)));
+        left = part.left_kept g c d l m _ _ step r (λ x h. omega (arith, sum (uncounted_of x), n.uncounted x, more.alone.uncounted x, same_count g c d x (λ i j. s.done x i h j), s.left x h));
+        flags = part.flags_kept g c d l m _ _ step r s.flags (λ x i h j. omega (arith, sum (unflagged_of x i), n.unflagged x i, more.alone.unflagged x i, ap sign (s.done x i h j)));
         open_deps = λ x h. dite (ℕ_discrete x u)
             (λ q. subst (λ (y : ℕ). d.open_deps y ≡ sum_below (λ z. times y (g.successors z) - sum_over (counted_of g z y) m) g.tasks) (sym q) (
             let f : ℕ → ℕ = λ z. times u (g.successors z) - sum_over (counted_of g z u) l in
             let f' : ℕ → ℕ = λ z. times u (g.successors z) - sum_over (counted_of g z u) m in
-            let moved : (z : ℕ) → sum_over (counted_of g z u) m + if_equal t z (reached g z u e) ≡ sum_over (counted_of g z u) l + if_equal t z (reached g z u (e + 1)) = λ z. omega (arith, step.sums (counted_of g z u), sum (counted_of g z u), n.counted z u, more.counted z u) in
+            let moved : (z : ℕ) → sum_over (counted_of g z u) m + if_equal t z (reached g z u e) ≡ sum_over (counted_of g z u) l + if_equal t z (reached g z u (e + 1)) = λ z. omega (arith, step.sums (counted_of g z u), sum (counted_of g z u), n.counted z u, more.alone.counted z u) in
             let rest : (z : ℕ) → z < g.tasks → z ≢ t → f z ≡ f' z = λ z j ne. omega (arith, moved z, equal_else t z (reached g z u e) (λ p. ne (sym p)), equal_else t z (reached g z u (e + 1)) (λ p. ne (sym p))) in
             let change = below_change f f' g.tasks t had.0 rest in
             let was : f t ≡ 1 = omega (arith, none_yet, reached_here.2) in
@@ -194,11 +173,11 @@ module _ (g : TaskGraph) (c : Counters) (l : List Duty) (t : ℕ) (o : Outcome) 
             (λ ne.
             let f : ℕ → ℕ = λ z. times x (g.successors z) - sum_over (counted_of g z x) l in
             let f' : ℕ → ℕ = λ z. times x (g.successors z) - sum_over (counted_of g z x) m in
-            let moved : (z : ℕ) → sum_over (counted_of g z x) m + if_equal t z (reached g z x e) ≡ sum_over (counted_of g z x) l + if_equal t z (reached g z x (e + 1)) = λ z. omega (arith, step.sums (counted_of g z x), sum (counted_of g z x), n.counted z x, more.counted z x) in
+            let moved : (z : ℕ) → sum_over (counted_of g z x) m + if_equal t z (reached g z x e) ≡ sum_over (counted_of g z x) l + if_equal t z (reached g z x (e + 1)) = λ z. omega (arith, step.sums (counted_of g z x), sum (counted_of g z x), n.counted z x, more.alone.counted z x) in
             else x h ne ∙ (r.open_deps x h ∙ below_same f f' g.tasks (λ z j. dite (ℕ_discrete t z)
             (λ p. omega (arith, moved z, equal_same t z (reached g z x e) p, equal_same t z (reached g z x (e + 1)) p, subst (λ (w : ℕ). reached g w x (e + 1) ≡ reached g w x e) p (reached_off x ne)))
             (λ p. omega (arith, moved z, equal_else t z (reached g z x e) p, equal_else t z (reached g z x (e + 1)) p)))));
-        state = part.state_kept g c d l m _ _ step r s.state (λ z x. omega (arith, sum (marked_of g z x), n.marked z x, more.marked z x));
+        state = part.state_kept g c d l m _ _ step r s.state (λ z x. omega (arith, sum (marked_of g z x), n.marked z x, more.alone.marked z x));
         fits = part.fits_kept g c d l m _ _ step r grows (All-append (Fits g d) extra next more.fits (next_cases (All (Fits g d))
             (λ h. all_one (Fits g d) (Tell t o (e + 1) false) (had.0, had.1, h, part.ended_later g c d t grows had.3))
             (λ h. all_one (Fits g d) (Told t o) (had.0, had.1, part.ended_later g c d t grows had.3))));

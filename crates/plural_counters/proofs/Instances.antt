@@ -8,71 +8,45 @@ use Rattle.std.proofs.lemmas.Nat.Bits.{bit_at_or}
 use Rattle.std.proofs.lemmas.List.Elements.{All-nil, All-contains}
 use Rattle.plural_map.specs.declared.outcome.Outcome.{Outcome}
 use Rattle.plural_order.specs.Sums.{sum_below, sum_over, one_if, sign, masked}
-use Rattle.plural_order.specs.TaskGraph.{TaskGraph, IsTaskGraph, any_end, outcome_by}
+use Rattle.plural_order.specs.TaskGraph.{TaskGraph, any_end, outcome_by}
 use Rattle.plural_order.proofs.Sums.{below_same}
-use Rattle.plural_counters.specs.Duties.{one_if_pair, phase_of, unarmed_of, uncounted_of, pending_of, unflagged_of, counted_of, marked_of, HasEnded, MayRun}
+use Rattle.plural_counters.specs.Duties.{one_if_pair, phase_of, unarmed_of, uncounted_of, pending_of, unflagged_of, HasEnded, MayRun}
 use Rattle.plural_counters.specs.Counters.{Counters, running, Fits, IsCounted}
-use Rattle.plural_counters.specs.Steps.{set_at, set_at_pair, with_left, IsSame, Keeps, tell_first}
+use Rattle.plural_counters.specs.Steps.{set_at, set_at_pair, with_left, Keeps, tell_first}
 use Rattle.plural_counters.specs.Laws.{Stays, HandsOut, Finishes, Marks, CountsOff, outcome_of_flags, LoadsFlags, PendingDone}
 use Rattle.plural_counters.specs.declared.duty.Duty.{Duty}
 use Rattle.plural_counters.specs.declared.duty.Duty.TheVariants.{Flag, Count, Close, Tell, Told}
 use Rattle.plural_counters.proofs.Sums.{one_same, one_else, pair_same, pair_first, pair_second, pair_cases, sign_none, sign_some, sign_le, mask_shut, mask_open, sign_or, term_in, sum_le, below_change, below_few, below_full}
-use Rattle.plural_counters.proofs.Duties.{unflagged_uncounted, unflagged_pending, first_phase, first_unarmed, first_uncounted, first_unflagged, first_pending, first_counted, first_marked}
-use Rattle.plural_counters.proofs.Parts.{set_here, set_else, Grows, all_one, goes_fits}
+use Rattle.plural_counters.proofs.Duties.{unflagged_uncounted, unflagged_pending, IsPhaseAlone, alone_none, alone_close, alone_first, first_phase, first_unarmed}
+use Rattle.plural_counters.proofs.Parts.{set_here, set_else, Grows, same_count, all_one, goes_fits}
 use Rattle.plural_counters.proofs.Parts as part
 
 -- ---- steps that change no duty
 
--- Counters that say the same leave the duties that stay as they were.
-pub grows_same : (g : TaskGraph) (c d : Counters) → IsTaskGraph g → IsSame g c d → Grows g c d
-grows_same g c d graph s = record {
-  done = λ u l ran h. let i = graph.ran_instances u l ran in omega (arith, s.done u l i.0 i.1);
-  alloc = λ u h. omega (arith, s.alloc u h);
-  left = λ u h z. omega (arith, s.left u h);
-}
-
--- Counters that say the same have as many done.
-pub same_count : (g : TaskGraph) (c d : Counters) (u : ℕ) → ((l : ℕ) → l < g.quota u → d.done u l ≡ c.done u l) → sum_below (λ l. sign (d.done u l)) (g.quota u) ≡ sum_below (λ l. sign (c.done u l)) (g.quota u)
-same_count g c d u s = below_same (λ l. sign (d.done u l)) (λ l. sign (c.done u l)) (g.quota u) (λ l i. ap sign (s l i))
-
--- A step that changes no duty, and of the words no more than alloc of armed tasks.
-pub hand_out : HandsOut
-hand_out g c l t n r armed more m d step s =
-    let up : (u : ℕ) → u < g.tasks → (d.alloc u ≡ c.alloc u) ⊎ ((1 ≤ c.alloc u) × (c.alloc u ≤ d.alloc u)) = λ u h. dite (ℕ_discrete u t)
-    (λ e. inr (subst (λ (x : ℕ). 1 ≤ c.alloc x) (sym e) armed, omega (arith, s.alloc u h, set_here c.alloc t n u e, ap c.alloc e)))
-    (λ ne. inl (s.alloc u h ∙ set_else c.alloc t n u ne)) in
-    let run : (u : ℕ) → u < g.tasks → running (d.alloc u) (d.left u) ≡ running (c.alloc u) (c.left u) = λ u h. ⊎_elim (λ e. ap (λ x. running x (d.left u)) e ∙ ap (λ x. running (c.alloc u) x) (s.left u h))
-    (λ p. mask_open (d.alloc u) (sign (d.left u)) (omega (arith, p)) ∙ (ap sign (s.left u h) ∙ sym (mask_open (c.alloc u) (sign (c.left u)) p.0))) (up u h) in
-    let set : (u : ℕ) → u < g.tasks → sign (d.alloc u) ≡ sign (c.alloc u) = λ u h. ⊎_elim (λ e. ap sign e) (λ p. sign_some (d.alloc u) (omega (arith, p)) ∙ sym (sign_some (c.alloc u) p.0)) (up u h) in
-    record {
-      graph = r.graph;
-      phase = part.phase_kept g c d l m [] [] step r (λ u h. omega (arith, ap sign (s.open_deps u h), run u h));
-      unarmed = part.unarmed_kept g c d l m [] [] step r (λ u h. omega (arith, ap sign (s.open_deps u h), set u h));
-      pending = part.pending_kept g c d l m [] [] step r (λ u k h i. omega (arith, ap sign (s.done u k h i)));
-      left = part.left_kept g c d l m [] [] step r (λ u h. omega (arith, same_count g c d u (λ k i. s.done u k h i), s.left u h));
-      flags = part.flags_kept g c d l m [] [] step r s.flags (λ u k h i. omega (arith, ap sign (s.done u k h i)));
-      open_deps = part.open_kept g c d l m [] [] step r s.open_deps (λ x u. refl);
-      state = part.state_kept g c d l m [] [] step r s.state (λ x u. refl);
-      fits = part.fits_kept g c d l m [] [] step r (record {
-        done = λ u k ran h. let i = r.graph.ran_instances u k ran in omega (arith, s.done u k i.0 i.1);
-        alloc = λ u h. ⊎_elim (λ e. omega (arith, e)) (λ p. p.1) (up u h);
-        left = λ u h z. omega (arith, s.left u h);
-      }) (All-nil (Fits g d));
-    }
-
 -- A step that changes no duty, and no word.
 pub stay : Stays
-stay g c l r m d step s = record {
-  graph = r.graph;
-  phase = part.phase_kept g c d l m [] [] step r (λ u h. omega (arith, ap sign (s.open_deps u h), ap (λ x. running x (d.left u)) (s.alloc u h), ap (λ x. running (c.alloc u) x) (s.left u h)));
-  unarmed = part.unarmed_kept g c d l m [] [] step r (λ u h. omega (arith, ap sign (s.open_deps u h), ap sign (s.alloc u h)));
-  pending = part.pending_kept g c d l m [] [] step r (λ u k h i. omega (arith, ap sign (s.done u k h i)));
-  left = part.left_kept g c d l m [] [] step r (λ u h. omega (arith, same_count g c d u (λ k i. s.done u k h i), s.left u h));
-  flags = part.flags_kept g c d l m [] [] step r s.flags (λ u k h i. omega (arith, ap sign (s.done u k h i)));
-  open_deps = part.open_kept g c d l m [] [] step r s.open_deps (λ x u. refl);
-  state = part.state_kept g c d l m [] [] step r s.state (λ x u. refl);
-  fits = part.fits_kept g c d l m [] [] step r (grows_same g c d r.graph s) (All-nil (Fits g d));
-}
+stay g c l r m d step s = part.phase_keeps g c d l m [] [] step r (part.same_alloc g c d s) (alone_none g) (alone_none g) (λ t h. omega (arith, ap (λ n. running n (c.left t)) (s.alloc t h))) (λ t h. omega (arith, ap sign (s.alloc t h))) (λ _. All-nil (Fits g d))
+
+-- A step that changes no duty, and of the words no more than alloc of an armed task.
+pub hand_out : HandsOut
+hand_out g c l t n r armed more m d step s = part.phase_keeps g c d l m [] [] step r
+    (record {
+      alloc = λ u h. ⊎_elim (λ e. omega (arith, e)) (λ p. p.1) (up u h);
+      done = s.done;
+      flags = s.flags;
+      left = s.left;
+      state = s.state;
+      open_deps = s.open_deps;
+    })
+    (alone_none g) (alone_none g)
+    (λ u h. ⊎_elim (λ e. omega (arith, ap (λ x. running x (c.left u)) e)) (λ p. omega (arith, mask_open (d.alloc u) (sign (c.left u)) (omega (arith, p)), mask_open (c.alloc u) (sign (c.left u)) p.0)) (up u h))
+    (λ u h. ⊎_elim (λ e. omega (arith, ap sign e)) (λ p. omega (arith, sign_some (d.alloc u) (omega (arith, p)), sign_some (c.alloc u) p.0)) (up u h))
+    (λ _. All-nil (Fits g d))
+  where
+    up : (u : ℕ) → u < g.tasks → (d.alloc u ≡ c.alloc u) ⊎ ((1 ≤ c.alloc u) × (c.alloc u ≤ d.alloc u))
+    up u h = dite (ℕ_discrete u t)
+        (λ e. inr (subst (λ (x : ℕ). 1 ≤ c.alloc x) (sym e) armed, omega (arith, s.alloc u h, set_here c.alloc t n u e, ap c.alloc e)))
+        (λ ne. inl (s.alloc u h ∙ set_else c.alloc t n u ne))
 
 -- ---- done
 
@@ -142,11 +116,7 @@ mark g c l t k r m d step s =
           (λ y j. ap (λ z. masked z (bit_at (g.ends u y) i)) (omega (arith, ap sign (s.done u y h j), step.sums (unflagged_of u y), pair_first t k u y ne))))));
       open_deps = part.open_kept g c d l m _ _ step r s.open_deps (λ x u. refl);
       state = part.state_kept g c d l m _ _ step r s.state (λ x u. refl);
-      fits = part.fits_kept g c d l m _ _ step r (record {
-        done = λ u i ran h. let j = r.graph.ran_instances u i ran in omega (arith, s.done u i j.0 j.1);
-        alloc = λ u h. omega (arith, s.alloc u h);
-        left = λ u h z. omega (arith, s.left u h);
-      }) (all_one (Fits g d) (Count t k) inst);
+      fits = part.fits_kept g c d l m _ _ step r (part.grows_by g c d r.graph s.done (λ u h. omega (arith, s.alloc u h)) (λ u h z. omega (arith, s.left u h))) (all_one (Fits g d) (Count t k) inst);
     }
 
 -- ---- counted
@@ -155,15 +125,11 @@ mark g c l t k r m d step s =
 some_left : (g : TaskGraph) (c : Counters) (l : List Duty) (t : ℕ) → IsCounted g c l → t < g.tasks → 1 ≤ sum_over (uncounted_of t) l → 1 ≤ c.left t
 some_left g c l t r small h = omega (arith, h, r.left t small, below_few (λ i. sign (c.done t i)) (g.quota t) (λ i. sign_le (c.done t i)))
 
--- What the duties that come say of each task, after one is counted.
+-- What comes after one is counted: nothing, or the task is to be closed if nothing is left.
 record IsAfterCount (g : TaskGraph) (c d : Counters) (new : List Duty) : Type 0 where
-  pub phase : (u : ℕ) → u < g.tasks → sign (d.open_deps u) + sum_over (phase_of u) new + running (d.alloc u) (d.left u) ≡ sign (c.open_deps u) + 0 + running (c.alloc u) (c.left u)
+  pub alone : IsPhaseAlone g new
+  pub phase : (u : ℕ) → u < g.tasks → sum_over (phase_of u) new + running (d.alloc u) (d.left u) ≡ running (c.alloc u) (c.left u)
   pub unarmed : (u : ℕ) → sum_over (unarmed_of u) new ≡ 0
-  pub uncounted : (u : ℕ) → sum_over (uncounted_of u) new ≡ 0
-  pub pending : (u i : ℕ) → sum_over (pending_of u i) new ≡ 0
-  pub unflagged : (u i : ℕ) → sum_over (unflagged_of u i) new ≡ 0
-  pub counted : (x u : ℕ) → sum_over (counted_of g x u) new ≡ 0
-  pub marked : (x u : ℕ) → sum_over (marked_of g x u) new ≡ 0
   pub fits : All (Fits g d) new
 
 count_keeps : (g : TaskGraph) (c : Counters) (l : List Duty) (t k : ℕ) → IsCounted g c l → 1 ≤ c.alloc t → 1 ≤ c.left t
@@ -177,29 +143,21 @@ count_keeps g c l t k r armed some m d step s =
     let went : 1 ≤ d.alloc t = omega (arith, s.alloc t small) in
     let had_left : running (c.alloc t) (c.left t) ≡ 1 = mask_open (c.alloc t) (sign (c.left t)) armed ∙ sign_some (c.left t) some in
     let last : c.left t ≡ 1 → IsAfterCount g c d (Close t ∷ []) = λ one. record {
+      alone = alone_close g t;
       phase = λ u h. dite (ℕ_discrete u t)
-          (λ e. subst (λ (x : ℕ). sign (d.open_deps x) + sum_over (phase_of x) (Close t ∷ []) + running (d.alloc x) (d.left x) ≡ sign (c.open_deps x) + 0 + running (c.alloc x) (c.left x)) (sym e)
-          (omega (arith, ap sign (s.open_deps t small), one_same t t refl, had_left, mask_open (d.alloc t) (sign (d.left t)) went, sign_none (d.left t) (omega (arith, one, here)))))
-          (λ ne. omega (arith, ap sign (s.open_deps u h), one_else t u (λ q. ne (sym q)), off u h ne));
+          (λ e. subst (λ (x : ℕ). sum_over (phase_of x) (Close t ∷ []) + running (d.alloc x) (d.left x) ≡ running (c.alloc x) (c.left x)) (sym e)
+          (omega (arith, one_same t t refl, had_left, mask_open (d.alloc t) (sign (d.left t)) went, sign_none (d.left t) (omega (arith, one, here)))))
+          (λ ne. omega (arith, one_else t u (λ q. ne (sym q)), off u h ne));
       unarmed = λ u. refl;
-      uncounted = λ u. refl;
-      pending = λ u i. refl;
-      unflagged = λ u i. refl;
-      counted = λ x u. refl;
-      marked = λ x u. refl;
       fits = all_one (Fits g d) (Close t) (small, went, omega (arith, one, here));
     } in
     let more : c.left t ≢ 1 → IsAfterCount g c d [] = λ other. record {
+      alone = alone_none g;
       phase = λ u h. dite (ℕ_discrete u t)
-          (λ e. subst (λ (x : ℕ). sign (d.open_deps x) + 0 + running (d.alloc x) (d.left x) ≡ sign (c.open_deps x) + 0 + running (c.alloc x) (c.left x)) (sym e)
-          (omega (arith, ap sign (s.open_deps t small), had_left, mask_open (d.alloc t) (sign (d.left t)) went, sign_some (d.left t) (dite (ℕ_discrete (d.left t) 0) (λ z. absurd (other (omega (arith, here)))) (λ z. omega arith)))))
-          (λ ne. omega (arith, ap sign (s.open_deps u h), off u h ne));
+          (λ e. subst (λ (x : ℕ). 0 + running (d.alloc x) (d.left x) ≡ running (c.alloc x) (c.left x)) (sym e)
+          (omega (arith, had_left, mask_open (d.alloc t) (sign (d.left t)) went, sign_some (d.left t) (dite (ℕ_discrete (d.left t) 0) (λ z. absurd (other (omega (arith, here)))) (λ z. omega arith)))))
+          (λ ne. omega (arith, off u h ne));
       unarmed = λ u. refl;
-      uncounted = λ u. refl;
-      pending = λ u i. refl;
-      unflagged = λ u i. refl;
-      counted = λ x u. refl;
-      marked = λ x u. refl;
       fits = All-nil (Fits g d);
     } in
     let a : IsAfterCount g c d (cond (c.left t == 1) (Close t ∷ []) []) = dite (ℕ_discrete (c.left t) 1)
@@ -207,20 +165,16 @@ count_keeps g c l t k r armed some m d step s =
     (λ ne. subst (λ b. IsAfterCount g c d (cond b (Close t ∷ []) [])) (sym (ne_eqb (c.left t) 1 ne)) (more ne)) in
     record {
       graph = r.graph;
-      phase = part.phase_kept g c d l m _ _ step r a.phase;
+      phase = part.phase_kept g c d l m _ _ step r (λ u h. omega (arith, ap sign (s.open_deps u h), a.phase u h));
       unarmed = part.unarmed_kept g c d l m _ _ step r (λ u h. omega (arith, ap sign (s.open_deps u h), ap sign (s.alloc u h), a.unarmed u));
-      pending = part.pending_kept g c d l m _ _ step r (λ u i h j. omega (arith, ap sign (s.done u i h j), a.pending u i));
+      pending = part.pending_kept g c d l m _ _ step r (λ u i h j. omega (arith, ap sign (s.done u i h j), a.alone.pending u i));
       left = part.left_kept g c d l m _ _ step r (λ u h. dite (ℕ_discrete u t)
-          (λ e. omega (arith, same_count g c d u (λ i j. s.done u i h j), ap d.left e, ap c.left e, here, one_same t u (sym e), a.uncounted u))
-          (λ ne. omega (arith, same_count g c d u (λ i j. s.done u i h j), else u h ne, one_else t u (λ q. ne (sym q)), a.uncounted u)));
-      flags = part.flags_kept g c d l m _ _ step r s.flags (λ u i h j. omega (arith, ap sign (s.done u i h j), a.unflagged u i));
-      open_deps = part.open_kept g c d l m _ _ step r s.open_deps (λ x u. a.counted x u);
-      state = part.state_kept g c d l m _ _ step r s.state (λ x u. a.marked x u);
-      fits = part.fits_kept g c d l m _ _ step r (record {
-        done = λ u i ran h. let j = r.graph.ran_instances u i ran in omega (arith, s.done u i j.0 j.1);
-        alloc = λ u h. omega (arith, s.alloc u h);
-        left = λ u h z. dite (ℕ_discrete u t) (λ e. absurd (omega (arith, ap c.left e))) (λ ne. omega (arith, else u h ne));
-      }) a.fits;
+          (λ e. omega (arith, same_count g c d u (λ i j. s.done u i h j), ap d.left e, ap c.left e, here, one_same t u (sym e), a.alone.uncounted u))
+          (λ ne. omega (arith, same_count g c d u (λ i j. s.done u i h j), else u h ne, one_else t u (λ q. ne (sym q)), a.alone.uncounted u)));
+      flags = part.flags_kept g c d l m _ _ step r s.flags (λ u i h j. omega (arith, ap sign (s.done u i h j), a.alone.unflagged u i));
+      open_deps = part.open_kept g c d l m _ _ step r s.open_deps (λ x u. a.alone.counted x u);
+      state = part.state_kept g c d l m _ _ step r s.state (λ x u. a.alone.marked x u);
+      fits = part.fits_kept g c d l m _ _ step r (part.grows_by g c d r.graph s.done (λ u h. omega (arith, s.alloc u h)) (λ u h z. dite (ℕ_discrete u t) (λ e. absurd (omega (arith, ap c.left e))) (λ ne. omega (arith, else u h ne)))) a.fits;
     }
 
 -- To count an instance keeps the rule.
@@ -261,28 +215,15 @@ module _ (g : TaskGraph) (c : Counters) (l : List Duty) (t : ℕ) (r : IsCounted
 
 -- A task that has ended begins to be told, in place of a duty that said its phase.
 pub tell_keeps : (g : TaskGraph) (c : Counters) (l : List Duty) (t : ℕ) (o : Outcome) (p : Duty) → IsCounted g c l → t < g.tasks → o ≡ g.outcome t → HasEnded g c.done t
-    → ((u : ℕ) → phase_of u p ≡ one_if t u) → ((x k : ℕ) → (uncounted_of x p ≡ 0) × (unflagged_of x k p ≡ 0)) → ((x u : ℕ) → (counted_of g x u p ≡ 0) × (marked_of g x u p ≡ 0))
-    → Keeps g l (p ∷ []) (tell_first (g.successors t) t o) c
-tell_keeps g c l t o p r small is ended phase counts edges m d step s =
-    let ss = g.successors t in
-    record {
-      graph = r.graph;
-      phase = part.phase_kept g c d l m _ _ step r (λ u h. omega (arith, phase u, first_phase t o ss u, ap sign (s.open_deps u h), ap (λ x. running x (d.left u)) (s.alloc u h), ap (λ x. running (c.alloc u) x) (s.left u h)));
-      unarmed = part.unarmed_kept g c d l m _ _ step r (λ u h. omega (arith, first_unarmed t o ss u, ap sign (s.open_deps u h), ap sign (s.alloc u h)));
-      pending = part.pending_kept g c d l m _ _ step r (λ u k h i. omega (arith, first_pending t o ss u k, ap sign (s.done u k h i)));
-      left = part.left_kept g c d l m _ _ step r (λ u h. omega (arith, (counts u 0).0, first_uncounted t o ss u, same_count g c d u (λ k i. s.done u k h i), s.left u h));
-      flags = part.flags_kept g c d l m _ _ step r s.flags (λ u k h i. omega (arith, (counts u k).1, first_unflagged t o ss u k, ap sign (s.done u k h i)));
-      open_deps = part.open_kept g c d l m _ _ step r s.open_deps (λ x u. omega (arith, (edges x u).0, first_counted t o g ss refl x u));
-      state = part.state_kept g c d l m _ _ step r s.state (λ x u. omega (arith, (edges x u).1, first_marked t o g ss refl x u));
-      fits = part.fits_kept g c d l m _ _ step r grows (fresh ss refl);
-    }
+    → IsPhaseAlone g (p ∷ []) → ((u : ℕ) → phase_of u p ≡ one_if t u) → Keeps g l (p ∷ []) (tell_first (g.successors t) t o) c
+tell_keeps g c l t o p r small is ended alone phase m d step s = part.phase_keeps g c d l m _ _ step r (part.same_alloc g c d s) alone (alone_first g t o)
+    (λ u h. omega (arith, phase u, first_phase t o (g.successors t) u, ap (λ n. running n (c.left u)) (s.alloc u h)))
+    (λ u h. omega (arith, first_unarmed t o (g.successors t) u, ap sign (s.alloc u h)))
+    (λ grows. fresh grows (g.successors t) refl)
   where
-    grows : Grows g c d
-    grows = grows_same g c d r.graph s
-
-    fresh : (ss : List ℕ) → g.successors t ≡ ss → All (Fits g d) (tell_first ss t o)
-    fresh [] e = all_one (Fits g d) (Told t o) (small, is, part.ended_later g c d t grows ended)
-    fresh (y ∷ ys) e = all_one (Fits g d) (Tell t o 0 false) (small, is, omega (arith, ap length e), part.ended_later g c d t grows ended)
+    fresh : Grows g c d → (ss : List ℕ) → g.successors t ≡ ss → All (Fits g d) (tell_first ss t o)
+    fresh grows [] e = all_one (Fits g d) (Told t o) (small, is, part.ended_later g c d t grows ended)
+    fresh grows (y ∷ ys) e = all_one (Fits g d) (Tell t o 0 false) (small, is, omega (arith, ap length e), part.ended_later g c d t grows ended)
 
 -- To close a task tells its outcome, and keeps the rule.
 pub load_flags : LoadsFlags
@@ -290,5 +231,5 @@ load_flags g c l t r there may =
     let close = All-contains (Fits g c) l (Close t) r.fits there in
     record {
       outcome = outcome_is g c l t r close.0 close.2 may;
-      keeps = tell_keeps g c l t (g.outcome t) (Close t) r close.0 refl (ended_of g c l t r close.0 close.2 may) (λ u. refl) (λ x k. (refl, refl)) (λ x u. (refl, refl));
+      keeps = tell_keeps g c l t (g.outcome t) (Close t) r close.0 refl (ended_of g c l t r close.0 close.2 may) (alone_close g t) (λ u. refl);
     }

@@ -1,13 +1,14 @@
 -- Each part of the rule by itself: what a step has to show for it.
-use Rattle.std.proofs.Common.{◌≡◌, ℕ, ◌+◌, ◌-◌, ◌<◌, ◌≤◌, ◌≢◌, true, cond, List, [], ◌∷◌, get_or, All, Contains, refl, ap, ◌∙◌, ⊎_elim, arith, eq-eqb, ne_eqb}
+use Rattle.std.proofs.Common.{◌≡◌, ℕ, ◌+◌, ◌-◌, ◌<◌, ◌≤◌, ◌≢◌, true, cond, List, [], ◌∷◌, get_or, All, Contains, refl, sym, ap, ◌∙◌, ⊎_elim, arith, eq-eqb, ne_eqb}
 use Rattle.std.specs.Int.{bit_at}
 use Rattle.std.proofs.lemmas.List.Elements.{All-nil, All-cons, All-contains, Contains-get_or}
 use Rattle.plural_order.specs.Sums.{sum_below, sum_over, sign, masked, times}
-use Rattle.plural_order.specs.TaskGraph.{TaskGraph}
+use Rattle.plural_order.specs.TaskGraph.{TaskGraph, IsTaskGraph}
 use Rattle.plural_order.proofs.Sums.{below_same}
 use Rattle.plural_counters.specs.Duties.{phase_of, unarmed_of, uncounted_of, pending_of, unflagged_of, counted_of, marked_of, HasEnded, MayRun}
 use Rattle.plural_counters.specs.Counters.{Counters, running, Fits, IsCounted}
-use Rattle.plural_counters.specs.Steps.{set_at, Replaces}
+use Rattle.plural_counters.specs.Steps.{set_at, IsSame, Replaces}
+use Rattle.plural_counters.proofs.Duties.{IsPhaseAlone}
 use Rattle.plural_counters.specs.declared.duty.Duty.{Duty}
 use Rattle.plural_counters.specs.declared.duty.Duty.TheVariants.{Flag, Count, Close, Tell, Decide, Arm, Told}
 
@@ -27,6 +28,18 @@ pub record Grows (g : TaskGraph) (c d : Counters) : Type 0 where
   pub done : (t k : ℕ) → g.ran t k ≡ true → 0 < c.done t k → 0 < d.done t k
   pub alloc : (t : ℕ) → t < g.tasks → c.alloc t ≤ d.alloc t
   pub left : (t : ℕ) → t < g.tasks → c.left t ≡ 0 → d.left t ≡ 0
+
+-- So it is if what is done stays as it is.
+pub grows_by : (g : TaskGraph) (c d : Counters) → IsTaskGraph g → ((t k : ℕ) → t < g.tasks → k < g.quota t → d.done t k ≡ c.done t k) → ((t : ℕ) → t < g.tasks → c.alloc t ≤ d.alloc t) → ((t : ℕ) → t < g.tasks → c.left t ≡ 0 → d.left t ≡ 0) → Grows g c d
+grows_by g c d graph done alloc left = record {
+  done = λ t k ran h. let i = graph.ran_instances t k ran in omega (arith, done t k i.0 i.1);
+  alloc = alloc;
+  left = left;
+}
+
+-- Counters of which the same is done have as many done.
+pub same_count : (g : TaskGraph) (c d : Counters) (t : ℕ) → ((k : ℕ) → k < g.quota t → d.done t k ≡ c.done t k) → sum_below (λ k. sign (d.done t k)) (g.quota t) ≡ sum_below (λ k. sign (c.done t k)) (g.quota t)
+same_count g c d t same = below_same (λ k. sign (d.done t k)) (λ k. sign (c.done t k)) (g.quota t) (λ k few. ap sign (same k few))
 
 -- What has ended has.
 pub ended_later : (g : TaskGraph) (c d : Counters) (t : ℕ) → Grows g c d → HasEnded g c.done t → HasEnded g d.done t
@@ -96,3 +109,38 @@ module _ (g : TaskGraph) (c d : Counters) (l m old new : List Duty) (step : Repl
 -- The duty that goes fits.
 pub goes_fits : (g : TaskGraph) (c : Counters) (l m new : List Duty) (p : Duty) → Replaces l m (p ∷ []) new → IsCounted g c l → Fits g c p
 goes_fits g c l m new p step r = All-contains (Fits g c) l p r.fits (step.had p (one_there p))
+
+-- ---- steps whose duties say phases alone
+
+-- The counters d say the same as c but of alloc, which is no less.
+pub record IsSameButAlloc (g : TaskGraph) (c d : Counters) : Type 0 where
+  pub alloc : (t : ℕ) → t < g.tasks → c.alloc t ≤ d.alloc t
+  pub done : (t k : ℕ) → t < g.tasks → k < g.quota t → d.done t k ≡ c.done t k
+  pub flags : (t : ℕ) → t < g.tasks → d.flags t ≡ c.flags t
+  pub left : (t : ℕ) → t < g.tasks → d.left t ≡ c.left t
+  pub state : (t : ℕ) → t < g.tasks → d.state t ≡ c.state t
+  pub open_deps : (t : ℕ) → t < g.tasks → d.open_deps t ≡ c.open_deps t
+
+-- So it is of counters that say the same.
+pub same_alloc : (g : TaskGraph) (c d : Counters) → IsSame g c d → IsSameButAlloc g c d
+same_alloc g c d s = record { alloc = λ t small. omega (arith, s.alloc t small); done = s.done; flags = s.flags; left = s.left; state = s.state; open_deps = s.open_deps }
+
+-- A step keeps the rule if its duties say phases alone, it changes no word but alloc, and each task is in as many phases
+-- as before and no more often unarmed.
+pub phase_keeps : (g : TaskGraph) (c d : Counters) (l m old new : List Duty) → Replaces l m old new → IsCounted g c l → IsSameButAlloc g c d → IsPhaseAlone g old → IsPhaseAlone g new
+    → ((t : ℕ) → t < g.tasks → sum_over (phase_of t) new + running (d.alloc t) (c.left t) ≡ sum_over (phase_of t) old + running (c.alloc t) (c.left t))
+    → ((t : ℕ) → t < g.tasks → sum_over (unarmed_of t) new + sign (d.alloc t) ≤ sum_over (unarmed_of t) old + sign (c.alloc t))
+    → (Grows g c d → All (Fits g d) new) → IsCounted g d m
+phase_keeps g c d l m old new step r s was now phase unarmed fits =
+    let grows : Grows g c d = grows_by g c d r.graph s.done s.alloc (λ t small z. omega (arith, s.left t small)) in
+    record {
+      graph = r.graph;
+      phase = phase_kept g c d l m old new step r (λ t small. omega (arith, phase t small, ap sign (s.open_deps t small), ap (λ n. running (d.alloc t) n) (s.left t small)));
+      unarmed = unarmed_kept g c d l m old new step r (λ t small. omega (arith, unarmed t small, ap sign (s.open_deps t small)));
+      pending = pending_kept g c d l m old new step r (λ t k small few. omega (arith, was.pending t k, now.pending t k, ap sign (s.done t k small few)));
+      left = left_kept g c d l m old new step r (λ t small. omega (arith, was.uncounted t, now.uncounted t, same_count g c d t (λ k few. s.done t k small few), s.left t small));
+      flags = flags_kept g c d l m old new step r s.flags (λ t k small few. omega (arith, was.unflagged t k, now.unflagged t k, ap sign (s.done t k small few)));
+      open_deps = open_kept g c d l m old new step r s.open_deps (λ t u. now.counted t u ∙ sym (was.counted t u));
+      state = state_kept g c d l m old new step r s.state (λ t u. now.marked t u ∙ sym (was.marked t u));
+      fits = fits_kept g c d l m old new step r grows (fits grows);
+    }
