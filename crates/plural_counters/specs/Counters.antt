@@ -62,18 +62,17 @@ pub record IsCounted (g : TaskGraph) (c : Counters) (l : List Duty) : Type 0 whe
   -- Each duty fits the graph and the counters.
   pub fits : All (Fits g c) l
 
-module _ {V : Type 0} (duties : V → List Duty) where
-  -- The duties of all views, one view after another.
-  abbrev pub duties_of : List V → List Duty
-  duties_of [] = []
-  duties_of (v ∷ vs) = duties v ++ duties_of vs
+-- The duties of all views, one view after another.
+abbrev pub duties_of : {V : Type 0} → (duties : V → List Duty) → List V → List Duty
+duties_of duties [] = []
+duties_of duties (v ∷ vs) = duties v ++ duties_of duties vs
 
-  -- The rule, over views that tell their duties.
-  abbrev pub Counted : TaskGraph → Counters → List V → Type 0
-  Counted g c views = IsCounted g c (duties_of views)
+-- The rule, over views that tell their duties.
+abbrev pub Counted : {V : Type 0} → (duties : V → List Duty) → TaskGraph → Counters → List V → Type 0
+Counted duties g c views = IsCounted g c (duties_of duties views)
 
--- What is so of the duties of one view: it has one phase at most of each task, so those tasks all differ; and each duty
--- is of the graph.
+-- What is so of the duties of one view: they say one phase at most of each task, so the tasks of its duties and those
+-- that it was told all differ; and each duty is of the graph.
 pub record IsSound (g : TaskGraph) (l : List Duty) : Type 0 where
   pub apart : (t : ℕ) → t < g.tasks → sum_over (phase_of t) l ≤ 1
   pub of_graph : All (IsOfGraph g) l

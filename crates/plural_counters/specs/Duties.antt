@@ -63,51 +63,52 @@ phases_of (Flag t k) = 0
 phases_of (Count t k) = 0
 phases_of _ = 1
 
-module _ (g : TaskGraph) where
-  -- How often task u stands among the first m successors of task t.
-  abbrev pub reached : (t u m : ℕ) → ℕ
-  reached t u m = times u (take m (g.successors t))
+-- How often task u stands among the first m successors of task t.
+abbrev pub reached : TaskGraph → (t u m : ℕ) → ℕ
+reached g t u m = times u (take m (g.successors t))
 
-  -- The dependency of task u on task t is counted: t was told, or is being told beyond the place of u.
-  abbrev pub counted_of : (t u : ℕ) → Duty → ℕ
-  counted_of t u (Tell x o e h) = if_equal x t (reached t u e)
-  counted_of t u (Told x o) = if_equal x t (times u (g.successors t))
-  counted_of t u _ = 0
+-- The dependency of task u on task t is counted: t was told, or is being told beyond the place of u.
+abbrev pub counted_of : TaskGraph → (t u : ℕ) → Duty → ℕ
+counted_of g t u (Tell x o e h) = if_equal x t (reached g t u e)
+counted_of g t u (Told x o) = if_equal x t (times u (g.successors t))
+counted_of g t u _ = 0
 
-  -- The dependency of task u on task t is marked: it is counted, or t is being told at the place of u and marked there.
-  abbrev pub marked_of : (t u : ℕ) → Duty → ℕ
-  marked_of t u (Tell x o e h) = if_equal x t (reached t u (e + one_of h))
-  marked_of t u (Told x o) = if_equal x t (times u (g.successors t))
-  marked_of t u _ = 0
+-- The dependency of task u on task t is marked: it is counted, or t is being told at the place of u and is marked there.
+abbrev pub marked_of : TaskGraph → (t u : ℕ) → Duty → ℕ
+marked_of g t u (Tell x o e h) = if_equal x t (reached g t u (e + one_of h))
+marked_of g t u (Told x o) = if_equal x t (times u (g.successors t))
+marked_of g t u _ = 0
 
-  -- How far the duty has told its task: one more than its successors so far.
-  abbrev pub progress_of : Duty → ℕ
-  progress_of (Tell t o e h) = e + 1
-  progress_of (Told t o) = length (g.successors t) + 1
-  progress_of _ = 0
+-- ---- how far a duty has told its task
 
-  -- ---- what has to hold for a duty to be owed
+-- One more than the successors that the task was told to; 0 if it isn't being told.
+abbrev pub progress_of : TaskGraph → Duty → ℕ
+progress_of g (Tell t o e h) = e + 1
+progress_of g (Told t o) = length (g.successors t) + 1
+progress_of g _ = 0
 
-  -- Of task t, and of each task before it, all instances that run are done.
-  pub record HasEnded (done : (t k : ℕ) → ℕ) (t : ℕ) : Type 0 where
-    pub own : (k : ℕ) → g.ran t k ≡ true → 0 < done t k
-    pub earlier : (u l : ℕ) → g.ran u l ≡ true → g.before u t ≡ true → 0 < done u l
+-- ---- what has to hold for a duty to be owed
 
-  -- All instances of task t run, and those that run of each task before it are done.
-  pub record MayRun (done : (t k : ℕ) → ℕ) (t : ℕ) : Type 0 where
-    pub runs : (k : ℕ) → k < g.quota t → g.ran t k ≡ true
-    pub earlier : (u l : ℕ) → g.ran u l ≡ true → g.before u t ≡ true → 0 < done u l
+-- Of task t, and of each task before it, all instances that run are done.
+pub record HasEnded (g : TaskGraph) (done : (t k : ℕ) → ℕ) (t : ℕ) : Type 0 where
+  pub own : (k : ℕ) → g.ran t k ≡ true → 0 < done t k
+  pub earlier : (u l : ℕ) → g.ran u l ≡ true → g.before u t ≡ true → 0 < done u l
 
-  -- The duty is of a task or an instance of the graph; a task is told its outcome in the graph, at the place of a
-  -- successor.
-  abbrev pub IsOfGraph : Duty → Type 0
-  IsOfGraph (Flag t k) = (t < g.tasks) × (k < g.quota t)
-  IsOfGraph (Count t k) = (t < g.tasks) × (k < g.quota t)
-  IsOfGraph (Close t) = t < g.tasks
-  IsOfGraph (Tell t o e h) = (t < g.tasks) × (o ≡ g.outcome t) × (e < length (g.successors t))
-  IsOfGraph (Decide t) = t < g.tasks
-  IsOfGraph (Arm t) = t < g.tasks
-  IsOfGraph (Told t o) = (t < g.tasks) × (o ≡ g.outcome t)
+-- All instances of task t run, and those that run of each task before it are done.
+pub record MayRun (g : TaskGraph) (done : (t k : ℕ) → ℕ) (t : ℕ) : Type 0 where
+  pub runs : (k : ℕ) → k < g.quota t → g.ran t k ≡ true
+  pub earlier : (u l : ℕ) → g.ran u l ≡ true → g.before u t ≡ true → 0 < done u l
+
+-- The duty is of a task or an instance of the graph; a task is told its outcome in the graph, at the place of a
+-- successor.
+abbrev pub IsOfGraph : TaskGraph → Duty → Type 0
+IsOfGraph g (Flag t k) = (t < g.tasks) × (k < g.quota t)
+IsOfGraph g (Count t k) = (t < g.tasks) × (k < g.quota t)
+IsOfGraph g (Close t) = t < g.tasks
+IsOfGraph g (Tell t o e h) = (t < g.tasks) × (o ≡ g.outcome t) × (e < length (g.successors t))
+IsOfGraph g (Decide t) = t < g.tasks
+IsOfGraph g (Arm t) = t < g.tasks
+IsOfGraph g (Told t o) = (t < g.tasks) × (o ≡ g.outcome t)
 
 -- Nothing is owed: a task was told.
 abbrev pub IsTold : Duty → Type 0

@@ -158,7 +158,7 @@ ViewsAreSound V = (duties : V → List Duty) (g : TaskGraph) (c : Counters) (vie
 abbrev pub RoomForPhases : Type 0
 RoomForPhases = (g : TaskGraph) (l : List Duty) → IsSound g l → sum_over phases_of l ≤ g.tasks
 
--- Their progress has a bound: one more than all successors of all tasks.
+-- Their progress is at most one for each task and one for each of its successors.
 abbrev pub ProgressBounded : Type 0
 ProgressBounded = (g : TaskGraph) (l : List Duty) → IsSound g l
     → sum_over (progress_of g) l ≤ sum_below (λ t. length (g.successors t) + 1) g.tasks
