@@ -73,7 +73,7 @@ counted_of g t u (Tell x o e h) = if_equal x t (reached g t u e)
 counted_of g t u (Told x o) = if_equal x t (times u (g.successors t))
 counted_of g t u _ = 0
 
--- The dependency of task u on task t is marked: it is counted, or t is being told at the place of u and is marked there.
+-- The dependency of task u on task t is marked: it is counted, or t is being told at the place of u, and marked there.
 abbrev pub marked_of : TaskGraph → (t u : ℕ) → Duty → ℕ
 marked_of g t u (Tell x o e h) = if_equal x t (reached g t u (e + one_of h))
 marked_of g t u (Told x o) = if_equal x t (times u (g.successors t))
