@@ -1,11 +1,12 @@
 -- The lines of a printed log: they end with it, none closes a section, and their numbers play no part.
-use Rattle.std.proofs.Common.{◌≡◌, ℕ, Bool, true, false, cond, None, List, [], ◌∷◌, ◌++◌, length, refl, ap, sym, subst, ◌∙◌, arith, append_assoc}
+use Rattle.std.proofs.Common.{◌≡◌, ℕ, ◌+◌, Bool, true, false, cond, None, List, [], ◌∷◌, ◌++◌, length, refl, ap, sym, subst, ◌∙◌, arith, append_assoc}
 use Rattle.std.specs.Prelude.{◌==◌, codes, decimal, filter, flat_map, map, MatchOption}
 use Rattle.std.specs.Option.{option_map_or}
 use Rattle.std.specs.List.{AllByRecursion, enumerate_from, onto_first, slice_split}
 use Rattle.std.proofs.lemmas.Bool.{eqb-true, lt-ltb}
 use Rattle.plural_bytes.specs.Lines.{TextLine, is_blank, pieces, content, has_text}
 use Rattle.plural_sections.specs.Faults.{IsFaultless}
+use Rattle.plural_sections.specs.LineKinds.{ClosesEarly}
 use Rattle.plural_sections.specs.Sections.{closes}
 use Rattle.plural_sections.specs.Texts.{LineRule}
 use Rattle.plural_sections.proofs.Closings.{NoneCloses}
@@ -132,7 +133,11 @@ log_again tasks lines others e = fold_again (λ log text. option_map_or (with_li
 
 -- The rule of log lines reads texts alone.
 pub log_reads : (tasks : List TaskValue) → ReadsTexts (Breaks tasks)
-log_reads tasks before other text kind e b =
+log_reads tasks before other [] kind e b =
+    let many = length_again before other e in
+    subst (λ X. X) (λ i. ClosesEarly log_kind.Form (length tasks + 1) (many i) kind) b
+log_reads tasks before other (c ∷ cs) kind e b =
     let many = length_again before other e in
     let log = log_again tasks before other e in
-    subst (λ X. X) (λ i. MatchOption (shape_of text) (kind ≡ log_kind.Form) (λ s. HasKind tasks (many i) (length (log i).entries) s kind)) b
+    subst (λ X. X)
+    (λ i. MatchOption (shape_of (c ∷ cs)) (kind ≡ log_kind.Form) (λ s. HasKind tasks (many i) (length (log i).entries) s kind)) b
