@@ -1,6 +1,6 @@
 -- The order of the lines of a set.
-use Rattle.std.proofs.Common.{◌≡◌, ℕ, zero, suc, ◌+◌, ◌<◌, ◌≤◌, Bool, true, false, ◌||◌, ◌⊎◌, inl, inr, ⊎_elim, eqb, cond, List, [], ◌∷◌, ◌++◌, length, take, drop, set, get_or, min, Option, Some, None, refl, sym, ap, ◌∙◌, subst, arith, eqb-true, eq-eqb}
-use Rattle.std.specs.Prelude.{remove, insert, IfSome}
+use Rattle.std.proofs.Common.{◌≡◌, ℕ, zero, suc, ◌+◌, ◌-◌, ◌<◌, ◌≤◌, Bool, true, false, ◌||◌, ◌⊎◌, inl, inr, ⊎_elim, eqb, cond, List, [], ◌∷◌, ◌++◌, length, take, set, get_or, min, Option, Some, None, refl, sym, ap, ◌∙◌, subst, arith, eqb-true, eq-eqb}
+use Rattle.std.specs.Prelude.{remove, IfSome}
 use Rattle.std.proofs.lemmas.Bool.Decides.{nat_tests}
 use Rattle.plural_cache.specs.declared.set.Line.{Line}
 use Rattle.plural_cache.specs.Miss.{is_in, without}
@@ -12,39 +12,25 @@ pub bool_cases : (b : Bool) → (b ≡ true) ⊎ (b ≡ false)
 bool_cases true = inl refl
 bool_cases false = inr refl
 
--- Shifting lines up by one.
-carry : (xs : List Line) (i : ℕ) (c d : Line) → i < length xs → d ≡ get_or xs i d → take (suc i) (set xs i c) ++ d ∷ drop (suc i) (set xs i c) ≡ take i xs ++ c ∷ drop i xs
-carry [] i c d lt e = absurd (let h : ⊥ = omega arith in h)
-carry (x ∷ xs) zero c d lt e = ap (λ (y : Line). c ∷ y ∷ xs) e
-carry (x ∷ xs) (suc i) c d lt e = ap (λ (l : List Line). x ∷ l) (carry xs i c d (omega arith) e)
+-- A copy of the line before it, put at a place, leaves the line before it to be removed.
+remove-copied : (ls : List Line) (k : ℕ) (c : Line) → suc k < length ls → c ≡ get_or ls k c → remove (set ls (suc k) c) k ≡ remove ls (suc k)
+remove-copied [] k c lt e = absurd (let h : ⊥ = omega arith in h)
+remove-copied (x ∷ []) k c lt e = absurd (let h : ⊥ = omega arith in h)
+remove-copied (x ∷ y ∷ ls) zero c lt e = ap (λ (l : Line). l ∷ ls) e
+remove-copied (x ∷ y ∷ ls) (suc k) c lt e = ap (λ (l : List Line). x ∷ l) (remove-copied (y ∷ ls) k c (omega arith) e)
 
-carry_next : (xs : List Line) (i : ℕ) (c d : Line) → i < length xs → d ≡ get_or xs i d → insert (set xs i c) (i + 1) d ≡ insert xs i c
-carry_next xs i c d lt e = let s : i + 1 ≡ suc i = omega arith in ap (insert' (set xs i c) d) s ∙ carry xs i c d lt e
-  where
-    insert' : List Line → Line → ℕ → List Line
-    insert' ys y k = take k ys ++ y ∷ drop k ys
+-- The same for the place that is `i` places before `p`.
+shifted_next : (ls : List Line) (p i : ℕ) (c : Line) → i < p → p < length ls → c ≡ get_or ls (p - i - 1) c → remove (set ls (p - i) c) (p - (i + 1)) ≡ remove ls (p - i)
+shifted_next ls p i c lt within e =
+    let k = p - (i + 1) in
+    let here : p - i ≡ suc k = omega arith in
+    let before : p - i - 1 ≡ k = omega arith in
+    rw here (remove-copied ls k c (omega arith) (subst (λ n. c ≡ get_or ls n c) before e))
 
-remove-insert : (xs : List Line) (p : ℕ) (c : Line) → p ≤ length xs → remove (insert xs p c) p ≡ xs
-remove-insert xs zero c le = refl
-remove-insert [] (suc p) c le = absurd (let h : ⊥ = omega arith in h)
-remove-insert (x ∷ xs) (suc p) c le = ap (λ (l : List Line). x ∷ l) (remove-insert xs p c (omega arith))
-
-tail_of : List Line → List Line
-tail_of [] = []
-tail_of (x ∷ xs) = xs
-
-head_or : Line → List Line → Line
-head_or d [] = d
-head_or d (x ∷ xs) = x
-
--- Once all are carried on by one place, the new line stands before the old ones.
-pub carried_all : (xs old : List Line) (p : ℕ) (c line : Line) → suc p ≤ length xs → insert xs (suc p) c ≡ line ∷ old → xs ≡ line ∷ remove old p
-unfolding tail_of head_or
-carried_all [] old p c line le e = absurd (let h : ⊥ = omega arith in h)
-carried_all (x ∷ xs) old p c line le e =
-    let first : x ≡ line = ap (head_or line) e in
-    let rest : insert xs p c ≡ old = ap tail_of e in
-    ap (λ (y : Line). y ∷ xs) first ∙ ap (λ (l : List Line). line ∷ l) (sym (remove-insert xs p c (omega arith)) ∙ ap (λ (l : List Line). remove l p) rest)
+-- Once all are shifted, the new line stands before the old ones.
+pub shifted_all : (ls old : List Line) (k : ℕ) (line : Line) → 0 < length ls → k ≡ 0 → remove ls k ≡ old → set ls 0 line ≡ line ∷ old
+shifted_all [] old k line some e r = absurd (let h : ⊥ = omega arith in h)
+shifted_all (x ∷ ls) old k line some e r = ap (λ (l : List Line). line ∷ l) (subst (λ n. remove (x ∷ ls) n ≡ old) e r)
 
 -- The first line of that number.
 pub keys-take : (p : ℕ) (ls : List Line) → keys (take p ls) ≡ take p (keys ls)

@@ -34,7 +34,7 @@ fn load_absent<B: Bus>(set: &mut Set, ways: usize, bus: &mut B, a: u32) -> u32
     let line = a / 8;
     let words = fill(bus, line);
     set.push(ways, Line { line, words });
-    words[(a % 8) as usize]
+    set.front_word((a % 8) as usize)
 }
 
 /// A load access to word `a`, whose line belongs to `set`: a line that is absent is filled.

@@ -44,17 +44,15 @@ impl Line {
 }
 
 /// Puts a line before the others, in place of the p-th.
-#[inline(never)]
+#[inline(always)]
 fn shift_in(lines: &mut [Line], p: usize, line: Line)
     requires { p < length lines.old }
     ensures { lines.new ≡ line ∷ remove lines.old p }
 {
-    let mut carried = line;
-    for i in 0..p + 1 {
-        let next = lines[i];
-        lines[i] = carried;
-        carried = next;
+    for i in 0..p {
+        lines[p - i] = lines[p - i - 1];
     }
+    lines[0] = line;
 }
 
 impl Set {
@@ -117,15 +115,37 @@ impl Set {
         requires { p < length self.old }
         ensures { (x : ℕ) → IsFirst x p self.old → self.new ≡ brought x self.old }
     {
-        if p == 0 {
-            return;
+        if p > 0 {
+            self.bring(p);
         }
+    }
+
+    /// The same by a call. The second place is the usual one, and is moved without a loop.
+    #[inline(never)]
+    fn bring(&mut self, p: usize)
+        requires { p < length self.old }
+        ensures { (x : ℕ) → IsFirst x p self.old → self.new ≡ brought x self.old }
+    {
+        if p == 1 {
+            self.put_first(1);
+        } else {
+            self.put_first(p);
+        }
+    }
+
+    /// Moves the line at place `p` before the others.
+    #[inline(always)]
+    fn put_first(&mut self, p: usize)
+        requires { p < length self.old }
+        ensures { (x : ℕ) → IsFirst x p self.old → self.new ≡ brought x self.old }
+    {
         let _ = &self.used;
         let line = self.lines[p];
         shift_in(&mut self.lines, p, line);
     }
 
     /// Puts a line first; if the set is full, the last is dropped.
+    #[inline(always)]
     pub fn push(&mut self, ways: usize, line: Line)
         requires { (0 < ways) × (ways ≤ 4) }
         ensures { self.new ≡ line ∷ take (ways - 1) self.old }

@@ -1,11 +1,11 @@
-use Rattle.std.proofs.Common.{◌≡◌, ◌∷◌, length}
-use Rattle.std.specs.Prelude.{insert}
+use Rattle.std.proofs.Common.{◌≡◌, ◌-◌, length}
+use Rattle.std.specs.Prelude.{remove}
 use Rattle.plural_cache.proofs.set.shift_in.Given as goal
 
--- With the carried line put in, they are the old ones after the new line.
+-- Without the line at the place that is free next, they are the old ones without the p-th.
 abbrev pub invariant-loop-i : goal.invariant-loop-i
 invariant-loop-i l =
     record {
       same : length l.lines ≡ length l.fn.lines;
-      shifted : insert l.lines l.i l.carried ≡ l.fn.line ∷ l.fn.lines;
+      shifted : remove l.lines (l.p - l.i) ≡ remove l.fn.lines l.p;
     }
