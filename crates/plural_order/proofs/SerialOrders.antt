@@ -23,15 +23,15 @@ use Rattle.plural_order.specs.ProgramWorld.{world_of}
 use Rattle.plural_order.proofs.Instances.{same_is}
 
 -- An instance that follows another is another.
-follows_other : (tasks : List TaskValue) (s u : Started) → Follows (order_of tasks) s u → s.t ≡ u.t → s.k ≡ u.k → ⊥
+pub follows_other : (tasks : List TaskValue) (s u : Started) → Follows (order_of tasks) s u → s.t ≡ u.t → s.k ≡ u.k → ⊥
 follows_other tasks s u h a b = by h.step
   where
     by : (h.at < h.later) ⊎ ((h.at ≡ h.later) × (s.k < u.k)) → ⊥
     by (inl lt) = places_differ tasks h.at h.later lt h.within (h.there ∙ a ∙ sym h.here)
     by (inr q) = let k = q.1 in omega arith
 
--- Its task doesn't come before that of the other.
-follows_free : (tasks : List TaskValue) (s u : Started) → Follows (order_of tasks) s u → Before tasks u.t s.t → ⊥
+-- The task of an instance that follows another doesn't come before that of the other.
+pub follows_free : (tasks : List TaskValue) (s u : Started) → Follows (order_of tasks) s u → Before tasks u.t s.t → ⊥
 follows_free tasks s u h b =
     not_before tasks h.at h.later (no_later h.step) h.within
     (subst (λ x. Before tasks (slice_index (order_of tasks) h.later) x) (sym h.there) (subst (λ x. Before tasks x s.t) (sym h.here) b))

@@ -49,7 +49,7 @@ task_skipped p t outcomes m records e = record {
 }
 
 -- A task that runs brings about what its instances do.
-pub task_ran : (p : ProgramValue) (t : ℕ) (outcomes : List (Option Outcome)) (before after : List ℕ) (old new : List Record) (o : Outcome)
+task_ran : (p : ProgramValue) (t : ℕ) (outcomes : List (Option Outcome)) (before after : List ℕ) (old new : List Record) (o : Outcome)
     → decided (task_at p t) outcomes ≡ decision.Run
     → after ≡ (instances p t (task_at p t).quota before).memory
     → new ≡ old ++ map (record_of p) (instances p t (task_at p t).quota before).ran

@@ -21,11 +21,11 @@ pub record HasOutcomes (done : List ℕ) (outcomes : List (Option Outcome)) : Ty
   pub each : (u : ℕ) → is_among u done ≡ true → is_some (outcome_at outcomes u) ≡ true
 
 -- Before the first task nothing is asked.
-pub none_done : (outcomes : List (Option Outcome)) → HasOutcomes [] outcomes
+none_done : (outcomes : List (Option Outcome)) → HasOutcomes [] outcomes
 none_done outcomes = record { each = λ u h. absurd cc }
 
 -- One more outcome.
-pub one_done : (done : List ℕ) (outcomes : List (Option Outcome)) (t : ℕ) (o : Outcome) → t < length outcomes → HasOutcomes done outcomes → HasOutcomes (done ++ t ∷ []) (slice_set outcomes t (Some o))
+one_done : (done : List ℕ) (outcomes : List (Option Outcome)) (t : ℕ) (o : Outcome) → t < length outcomes → HasOutcomes done outcomes → HasOutcomes (done ++ t ∷ []) (slice_set outcomes t (Some o))
 one_done done outcomes t o h s = record {
   each = λ u a. ⊎_elim
       (λ (e : u ≡ t). ap is_some (get_or-set_at outcomes t u (Some o) None e h))

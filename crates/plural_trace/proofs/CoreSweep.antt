@@ -25,7 +25,7 @@ undrawn es i e =
     (four_false (not (ltb x.start x.end_at)) (not (ltb x.end_at (2 * length es))) (is_drawn x.start (take i es)) (is_drawn x.end_at (take i es)) e).2
 
 -- Entries of fine tickets that start alike are the same.
-pub starts_differ : (es : List Entry) (k l : ℕ) → least (breaks_tickets es) (length es) ≡ None → k < length es → l < length es → (entry_at es k).start ≡ (entry_at es l).start → k ≡ l
+starts_differ : (es : List Entry) (k l : ℕ) → least (breaks_tickets es) (length es) ≡ None → k < length es → l < length es → (entry_at es k).start ≡ (entry_at es l).start → k ≡ l
 starts_differ es k l fine lk ll e = elim (cases_order k l) [
   | inl same ↦ same
   | inr (inl lt) ↦ absurd (later k l lt ll e)
@@ -117,7 +117,7 @@ pub record AreLawful (es : List Entry) (m cores : ℕ) : Type 0 where
   pub own : (k : ℕ) → k < m → (entry_at es k).core < cores
 
 -- Before the first ticket nothing is known.
-pub swept_none : (es : List Entry) (m cores : ℕ) → Swept es m cores 0 m (replicate cores m)
+swept_none : (es : List Entry) (m cores : ℕ) → Swept es m cores 0 m (replicate cores m)
 swept_none es m cores = record {
   long = length-replicate cores m;
   within = omega arith;
@@ -128,7 +128,7 @@ swept_none es m cores = record {
 }
 
 -- A ticket at which no entry before the first found starts.
-pub swept_skip : (es : List Entry) (m cores s first : ℕ) (last : List ℕ) → ((k : ℕ) → k < first → (entry_at es k).start ≡ s → ⊥) → Swept es m cores s first last → Swept es m cores (s + 1) first last
+swept_skip : (es : List Entry) (m cores s first : ℕ) (last : List ℕ) → ((k : ℕ) → k < first → (entry_at es k).start ≡ s → ⊥) → Swept es m cores s first last → Swept es m cores (s + 1) first last
 swept_skip es m cores s first last none h = record {
   long = h.long;
   within = h.within;
@@ -142,7 +142,7 @@ swept_skip es m cores s first last none h = record {
     below k l b = let apart = none k l in omega (arith, apart)
 
 -- Less is known if the first found is an earlier one.
-pub swept_less : (es : List Entry) (m cores s first less : ℕ) (last : List ℕ) → less ≤ first → is_busy_at es less ≡ true → Swept es m cores s first last → Swept es m cores s less last
+swept_less : (es : List Entry) (m cores s first less : ℕ) (last : List ℕ) → less ≤ first → is_busy_at es less ≡ true → Swept es m cores s first last → Swept es m cores s less last
 swept_less es m cores s first less last le busy h = record {
   long = h.long;
   within = let w = h.within in omega arith;

@@ -6,9 +6,9 @@
 //! (`specs/SerialLog.antt`), can be printed (`laws::serial_is_log`) and is legal with its last memory
 //! (`laws::serial_is_legal`). An entry as words tells the entry (`specs/RecordWords.antt`).
 //!
-//! Stands on `plural_serial`, whose records a log has and whose run it is compared with, and on `plural_reach`, which
-//! tells what comes before what. `plural_log` prints and reads logs; `plural_cli` writes serial logs and verifies
-//! outputs.
+//! Stands on `plural_serial`, whose records a log has and whose run it is compared with, on `plural_reach`, which tells
+//! what comes before what, and on `plural_order`, whose lemmas say in which order the serial run goes. `plural_log`
+//! prints and reads logs; `plural_cli` writes serial logs and verifies outputs.
 #![tactic(auto)]
 
 mod compare;
