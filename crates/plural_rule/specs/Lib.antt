@@ -1,0 +1,11 @@
+pub mod Opening
+pub mod Layout
+pub mod Content
+pub mod Stages
+pub mod Rule
+pub mod Steps
+pub mod Kept
+pub mod First
+pub mod Last
+pub mod Named
+pub mod Laws

@@ -1,0 +1,9 @@
+pub mod Limits
+pub mod Moves
+pub mod Tokens
+pub mod AllocSteps
+pub mod InstanceSteps
+pub mod RootSteps
+pub mod Opens
+pub mod Closes
+pub mod SettlingSteps

@@ -1,0 +1,22 @@
+-- What the words say when they are closed. (This project's own.)
+use Rattle.std.specs.Prelude.{ℕ, ◌≡◌, List}
+use mathlib.Core.Option.{some}
+use lib.ListN.{get_elem?}
+use Rattle.plural_rule.specs.Opening.{Opening}
+use Rattle.plural_rule.specs.Content.{content}
+use Rattle.plural_rule.specs.Kept.{Kept}
+use Rattle.plural_rule.specs.Last.{HasTold, IsLast}
+use Rattle.plural_rule.specs.declared.view.View.{View}
+
+-- Closed words: what they were opened with, the words, and what the root knew.
+pub record ClosedSeen : Type 0 where
+  pub opening : Opening
+  pub words : List ℕ
+  pub root : View
+
+-- The rule holds of them, with the root's view as the first. If the root had told every task, they are the last ones.
+pub record IsClosed (c : ClosedSeen) : Type 0 where
+  pub views : List View
+  pub kept : Kept c.opening c.words views
+  pub root : get_elem? views 0 ≡ some c.root
+  pub last : HasTold c.opening c.root → IsLast c.opening (content c.opening.program c.words)

@@ -1,0 +1,140 @@
+-- The rule of the table, and what each step tells the token that takes it. (This project's own.)
+--
+-- A step tells of itself (its word, and what it was to write), of the token before, of the number that it found, and of
+-- the token after. It can't name the words' opening, which the token's view has.
+use Rattle.std.specs.Prelude.{ℕ, ◌≡◌, ◌≢◌, ◌+◌, ◌^◌, ◌<◌, ◌≤◌, ◌==◌, true, cond, [], ◌∷◌, ◌++◌, drop, slice_index}
+use Rattle.atomic_table.specs.Table.{State, Me, Step}
+use Rattle.plural_order.specs.TaskGraph.{decision_by}
+use Rattle.plural_counters.specs.Counters.{IsSound}
+use Rattle.plural_counters.specs.Steps.{tell_first, tell_next, on_decision}
+use Rattle.plural_counters.specs.Laws.{outcome_of_flags, decision_of_state}
+use Rattle.plural_counters.specs.declared.duty.Duty.TheVariants.{Count, Close, Tell, Decide}
+use Rattle.plural_rule.specs.Opening.{Opening, graph_in, outcome_of, task_count, quota_of}
+use Rattle.plural_rule.specs.Layout.{alloc_at}
+use Rattle.plural_rule.specs.Steps.{looked, lost, took, began, did_read, stored, ended, did_note, finished, armed}
+use Rattle.plural_rule.specs.Kept.{Kept, duties}
+use Rattle.plural_rule.specs.Last.{KnowsWhole, HasTold}
+use Rattle.plural_rule.specs.declared.view.View.{View}
+use Rattle.plural_rule.specs.declared.view.Role.TheVariants.{Root}
+use Rattle.plural_words.specs.Places.{record_at}
+use Rattle.plural_words.specs.Stages.{memory_of, may_read}
+use Rattle.plural_words.specs.Settling.{first_task, first_number, first_outcome, first_place, settled}
+
+-- The rule holds of the words and of all views. No slot is used.
+abbrev pub Holds : Opening → State (Unit {0}) View → Type 0
+Holds o s = Kept o s.words s.views
+
+-- A token of the table: its view, and the slots that it holds.
+abbrev pub Token : Type 0
+Token = Me (Unit {0}) View
+
+abbrev pub Tells : Type 1
+Tells = Step (Unit {0}) → Token → ℕ → Token → Type 0
+
+-- The token after a step that changes its view.
+abbrev pub IsNow : Token → View → Token → Type 0
+IsNow m v n = n ≡ (v, m.1)
+
+-- ---- claiming
+
+-- A load of the alloc word of task t.
+abbrev pub TellsLook : Tells
+TellsLook step m found n = (t : ℕ) → t < task_count m.0.opening.program → step.word ≡ alloc_at m.0.opening.program t
+    → IsNow m (looked m.0 t found) n × (slice_index m.0.found t ≤ found) × (found ≤ 1 + quota_of m.0.opening.program t)
+
+-- An exchange of the alloc word of task t.
+abbrev pub TellsExchange : Tells
+TellsExchange step m found n = (t : ℕ) → t < task_count m.0.opening.program
+    → step.word ≡ alloc_at m.0.opening.program t
+    → (found ≤ 1 + quota_of m.0.opening.program t)
+    × (found ≡ step.first → IsNow m (took m.0 t step.first) n)
+    × (found ≢ step.first → IsNow m (lost m.0 t found) n × (step.first < found))
+
+-- ---- an instance
+
+-- A ticket is drawn, with which the instance begins.
+abbrev pub TellsBegin : Tells
+TellsBegin step m found n = IsNow m (began m.0 found) n × (found ≤ 131072)
+
+-- A load of a word of the memory.
+abbrev pub TellsRead : Tells
+TellsRead step m found n = IsNow m (did_read m.0) n × (found < 2 ^ 32)
+    × (may_read m.0.opening m.0.stage step.word ≡ true
+    → found ≡ slice_index (memory_of m.0.opening m.0.stage) step.word)
+
+-- A store of the instance.
+abbrev pub TellsStore : Tells
+TellsStore step m found n = IsNow m (stored m.0) n
+
+-- A ticket is drawn, with which the instance ends.
+abbrev pub TellsEnd : Tells
+TellsEnd step m found n = IsNow m (ended m.0 found) n × (found ≤ 131072)
+
+-- A store to field f of the instance's record.
+abbrev pub TellsNote : Tells
+TellsNote step m found n = (f : ℕ) → step.word ≡ record_at m.0.opening.program m.0.stage + f
+    → IsNow m (did_note m.0 f step.first) n
+
+-- The store that makes the instance done.
+abbrev pub TellsFinish : Tells
+TellsFinish step m found n = IsNow m (finished m.0) n
+
+-- ---- the root
+
+-- A load by the root tells it whether all is told, if no seat is out.
+abbrev pub TellsAll : Tells
+TellsAll step m found n = (n ≡ m)
+    × (m.0.role ≡ Root [] → KnowsWhole m.0.opening m.0 → HasTold m.0.opening m.0)
+
+-- ---- settling: each step does the first duty that the view owes, and its duties are sound then
+
+-- The duties of the token after are sound.
+abbrev pub IsSoundNow : Token → Token → Type 0
+IsSoundNow m n = IsSound (graph_in m.0.opening) (duties n.0)
+
+-- The bits of an end join the flags of its task.
+abbrev pub TellsMark : Tells
+TellsMark step m found n =
+    IsNow m (settled m.0 (Count (first_task m.0.owes) (first_number m.0.owes) ∷ [])) n × IsSoundNow m n
+
+-- An instance is counted off its task.
+abbrev pub TellsCount : Tells
+TellsCount step m found n =
+    IsNow m (settled m.0 (cond (found == 1) (Close (first_task m.0.owes) ∷ []) [])) n × IsSoundNow m n
+
+-- A load of the flags of a task whose instances are all counted.
+abbrev pub TellsFlags : Tells
+TellsFlags step m found n =
+    IsNow m (settled m.0 (tell_first ((graph_in m.0.opening).successors (first_task m.0.owes)) (first_task m.0.owes)
+    (outcome_of m.0.opening (first_task m.0.owes)))) n
+    × IsSoundNow m n × (outcome_of_flags found ≡ outcome_of m.0.opening (first_task m.0.owes))
+
+-- The bits of a dependency join the state of the successor that is told next.
+abbrev pub TellsMarkEdge : Tells
+TellsMarkEdge step m found n =
+    IsNow m (settled m.0 (Tell (first_task m.0.owes) (first_outcome m.0.owes) (first_place m.0.owes) true ∷ [])) n
+    × IsSoundNow m n
+
+-- The dependency is counted off that successor.
+abbrev pub TellsCountEdge : Tells
+TellsCountEdge step m found n =
+    IsNow m (settled m.0 (cond (found == 1)
+    (Decide (slice_index ((graph_in m.0.opening).successors (first_task m.0.owes)) (first_place m.0.owes)) ∷ []) []
+    ++ tell_next ((graph_in m.0.opening).successors (first_task m.0.owes)) (first_task m.0.owes)
+    (first_outcome m.0.owes) (first_place m.0.owes))) n
+    × IsSoundNow m n
+
+-- A load of the state of a task whose dependencies are all counted.
+abbrev pub TellsState : Tells
+TellsState step m found n =
+    IsNow m (settled m.0 (on_decision (graph_in m.0.opening) (first_task m.0.owes)
+    (decision_by (graph_in m.0.opening) (first_task m.0.owes)))) n
+    × IsSoundNow m n
+    × (decision_of_state (graph_in m.0.opening) (first_task m.0.owes) found
+    ≡ decision_by (graph_in m.0.opening) (first_task m.0.owes))
+
+-- A task is armed.
+abbrev pub TellsArm : Tells
+TellsArm step m found n =
+    IsNow m (armed m.0 (first_task m.0.owes) (drop 1 m.0.owes)) n
+    × IsSoundNow m n × (slice_index m.0.found (first_task m.0.owes) ≡ 0)
