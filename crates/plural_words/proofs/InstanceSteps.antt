@@ -40,6 +40,7 @@ own_begin n id m core role got = let o = m.0.opening in let i = clock_at o.progr
     let value : (clock + 1) % 2 ^ 64 ≡ clock + 1 = omega (arith, is.low) in
     (began m.0 clock, subst (λ (y : ℕ). Kept o (set ws i y) (set views id (began m.0 clock))) (sym value) is.kept, (refl, is.low)))
 
+-- The table allows it.
 pub begin_allowed : (o : Opening) (n id : ℕ) (m : Token) (core i : ℕ) → m.0.opening ≡ o → m.0.role ≡ Seat core → IsGot m.0.stage → i ≡ clock_at o.program
     → Allows (Holds o) n id m i (λ y. (y + 1) % 2 ^ 64) (TellsBegin (step n i 1 0 none) m)
 begin_allowed o n id m core i is role got at =
@@ -64,6 +65,7 @@ own_end n id m core role run = let o = m.0.opening in let i = clock_at o.program
     let value : (clock + 1) % 2 ^ 64 ≡ clock + 1 = omega (arith, is.low) in
     (ended m.0 clock, subst (λ (y : ℕ). Kept o (set ws i y) (set views id (ended m.0 clock))) (sym value) is.kept, (refl, is.low)))
 
+-- The table allows it.
 pub end_allowed : (o : Opening) (n id : ℕ) (m : Token) (core i : ℕ) → m.0.opening ≡ o → m.0.role ≡ Seat core → HasRun o m.0.stage → i ≡ clock_at o.program
     → Allows (Holds o) n id m i (λ y. (y + 1) % 2 ^ 64) (TellsEnd (step n i 1 0 none) m)
 end_allowed o n id m core i is role run at =
@@ -80,6 +82,7 @@ read_value o (Got t k) a x h may = absurd (cc may)
 read_value o (Begun t k start made reads) a x h may = h t k start made reads refl may
 read_value o (Ended t k start end reads noted) a x h may = absurd (cc may)
 
+-- The table allows it.
 pub read_allowed : (o : Opening) (n id : ℕ) (m : Token) (core a : ℕ) → m.0.opening ≡ o → m.0.role ≡ Seat core → a < o.program.map.words
     → Allows (Holds o) n id m a (λ y. y) (TellsRead (step n a 0 0 none) m)
 read_allowed o n id m core a is role small =
@@ -103,6 +106,7 @@ next_is o (Got t k) x rest e = absurd (cc e)
 next_is o (Begun t k start made reads) x rest e = (t, k, start, made, reads, refl, e)
 next_is o (Ended t k start end reads noted) x rest e = absurd (cc e)
 
+-- The table allows it.
 pub store_allowed : (o : Opening) (n id : ℕ) (m : Token) (core a x : ℕ) (rest : List (ℕ × ℕ)) → m.0.opening ≡ o → m.0.role ≡ Seat core → x < 2 ^ 32 → to_come o m.0.stage ≡ (a, x) ∷ rest
     → Allows (Holds o) n id m a (λ _. x) (λ _. TellsStore (step n a x 0 none) m x)
 store_allowed o n id m core a x rest is role narrow next =
@@ -128,6 +132,7 @@ record_low p s place last h at = let g = ended_is p s place last h at in
     let same : record_at p s ≡ field_at p g.0 g.1 0 = ap (record_at p) g.6 in
     (omega (arith, g.8, field_low p g.0 g.1 7 g.7 (omega arith)), g.11, g.8 ∙ sym same)
 
+-- The table allows it.
 pub note_allowed : (o : Opening) (n id : ℕ) (m : Token) (core f x i : ℕ) (place last : ℕ) → m.0.opening ≡ o → m.0.role ≡ Seat core → IsEnded m.0.stage → IsPlaceOf m.0.opening.program m.0.stage place last → f < 7 → i ≡ place + f
     → Allows (Holds o) n id m i (λ _. x) (λ _. TellsNote (step n i x 0 none) m x)
 note_allowed o n id m core f x i place last is role over places few at =
@@ -153,9 +158,11 @@ noted_is o core (Got t k) h = absurd h
 noted_is o core (Begun t k start made reads) h = absurd h
 noted_is o core (Ended t k start end reads noted) h = (tt, λ u l s e r n q. subst (λ (st : Stage). IsNoted o core st) q h)
 
+-- It has ended.
 pub noted_ended : (o : Opening) (core : ℕ) (s : Stage) → IsNoted o core s → IsEnded s
 noted_ended o core s h = (noted_is o core s h).0
 
+-- The table allows it.
 pub finish_allowed : (o : Opening) (n id : ℕ) (m : Token) (core x i : ℕ) (place last : ℕ) → m.0.opening ≡ o → m.0.role ≡ Seat core → IsNoted o core m.0.stage → IsPlaceOf m.0.opening.program m.0.stage place last → i ≡ place + 7 → x ≡ 1 + last
     → Allows (Holds o) n id m i (λ _. x) (λ _. TellsFinish (step n i x 0 none) m x)
 finish_allowed o n id m core x i place last is role noted places at value =

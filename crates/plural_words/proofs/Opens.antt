@@ -55,6 +55,7 @@ pub record Opens (o : Opening) (words : List ℕ) : Type 0 where
   pub holds : Holds o (opening words [] (first_view o))
   pub long : length words ≡ word_count o.program
 
+-- They meet the rule, and are as many as the program wants.
 pub opens : (o : Opening) (words : List ℕ) → IsOpening o.program o.image → ((a : ℕ) → a < o.program.map.words → get_or o.image a 0 < 2 ^ 32) → words ≡ first_words o.program o.image → Opens o words
 opens o words ok narrow first =
     let kept = opens_words o ok narrow in

@@ -23,6 +23,7 @@ use Rattle.plural_words.proofs.Moves.{loads}
 
 -- ---- what is known of the root by its fields
 
+-- The fields are those of the root of these words.
 pub root_inside : {w' w : WordsSeen} {r' r : RootSeen} → w' ≡ w → r' ≡ r → IsRootOf w r → IsRootOf w' r'
 root_inside {w'} {w} {r'} {r} e f is = subst (λ (x : WordsSeen). IsRootOf x r') (sym e) (subst (λ (y : RootSeen). IsRootOf w y) (sym f) is)
 
@@ -37,6 +38,7 @@ none_in (x ∷ xs) e = absurd (omega arith)
 
 -- ---- a seat is split off
 
+-- The table allows it.
 pub split_allowed : (o : Opening) (id : ℕ) (v : View) (outs : List ℕ) (core named : ℕ) → core ≡ named → id ≡ 0 → v.role ≡ Root outs → times core outs ≡ 0 → core < o.cores
     → Splits (Holds o) id v (root_after v named) (new_seat v named)
 split_allowed o id v outs core named same first role away low s kept at =
@@ -46,6 +48,7 @@ split_allowed o id v outs core named same first role away low s kept at =
 
 -- ---- a seat comes back
 
+-- The table allows it.
 pub join_allowed : (o : Opening) (id other : ℕ) (v w : View) (outs : List ℕ) (core : ℕ) → id ≡ 0 → v.role ≡ Root outs → w.role ≡ Seat core → w.stage ≡ Free → w.owes ≡ []
     → Joins (Holds o) id v other w (joined v w) (spent no_opening)
 join_allowed o id other v w outs core first root seat free nothing s kept at apart there =
@@ -64,6 +67,7 @@ joined_role v w outs core root seat =
 
 -- ---- what the root learns
 
+-- The table allows it.
 pub all_allowed : (o : Opening) (n id : ℕ) (m : Token) (i : ℕ) → m.0.opening ≡ o → id ≡ 0 → Allows (Holds o) n id m i (λ y. y) (TellsAll (step n i 0 0 none) m)
 all_allowed o n id m i is first =
     let P : Opening → Type 0 = λ p. Allows (Holds p) n id m i (λ y. y) (TellsAll (step n i 0 0 none) m) in

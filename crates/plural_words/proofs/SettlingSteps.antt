@@ -38,6 +38,7 @@ module _ (o : Opening) (n id : ℕ) (m : Token) (core : ℕ) (is : m.0.opening �
 
   -- ---- the instances of a task
 
+  -- The bits of an end join the flags.
   pub mark_allowed : (t k bits i : ℕ) → i ≡ flags_at o.program t → m.0.owes ≡ Flag t k ∷ drop 1 m.0.owes → bits ≡ ends_of o t k
       → Allows (Holds o) n id m i (λ y. bit_or y bits) (TellsMark (step n i bits 0 none) m)
   mark_allowed t k bits i at owes ends =
@@ -50,6 +51,7 @@ module _ (o : Opening) (n id : ℕ) (m : Token) (core : ℕ) (is : m.0.opening �
       (w, after, (now m (sym (ap (λ (l : List Duty). settled m.0 (Count (first_task l) (first_number l) ∷ [])) owes)), sound p (set ws j (bit_or (get_or ws j 0) bits)) views id m.0 w after there))) in
       subst Q (sym at) (subst P is own ends)
 
+  -- An instance is counted off.
   pub count_allowed : (t k i : ℕ) → i ≡ left_at o.program t → m.0.owes ≡ Count t k ∷ drop 1 m.0.owes
       → Allows (Holds o) n id m i (λ y. (y + (2 ^ 64 - 1)) % 2 ^ 64) (TellsCount (step n i 1 0 none) m)
   count_allowed t k i at owes =
@@ -65,6 +67,7 @@ module _ (o : Opening) (n id : ℕ) (m : Token) (core : ℕ) (is : m.0.opening �
       (w, after, (now m (sym (ap (λ (l : List Duty). settled m.0 (cond (eqb left 1) (Close (first_task l) ∷ []) [])) owes)), sound p (set ws j ((left + (2 ^ 64 - 1)) % 2 ^ 64)) views id m.0 w after there))) in
       subst Q (sym at) (subst P is own)
 
+  -- The flags of a task to be closed are loaded.
   pub flags_allowed : (t i : ℕ) → i ≡ flags_at o.program t → m.0.owes ≡ Close t ∷ drop 1 m.0.owes
       → Allows (Holds o) n id m i (λ y. y) (TellsFlags (step n i 0 0 none) m)
   flags_allowed t i at owes =
@@ -86,6 +89,7 @@ module _ (o : Opening) (n id : ℕ) (m : Token) (core : ℕ) (is : m.0.opening �
 
   -- ---- the dependencies on a task
 
+  -- The bits of a dependency join the state.
   pub mark_edge_allowed : (t : ℕ) (outcome : Outcome) (e u bits i : ℕ) → i ≡ state_at o.program u → m.0.owes ≡ Tell t outcome e false ∷ drop 1 m.0.owes → slice_get ((graph_in o).successors t) e ≡ Some u → bits ≡ edges_of o t u
       → Allows (Holds o) n id m i (λ y. bit_or y bits) (TellsMarkEdge (step n i bits 0 none) m)
   mark_edge_allowed t outcome e u bits i at owes place edges =
@@ -98,6 +102,7 @@ module _ (o : Opening) (n id : ℕ) (m : Token) (core : ℕ) (is : m.0.opening �
       (w, after, (now m (sym (ap (λ (l : List Duty). settled m.0 (Tell (first_task l) (first_outcome l) (first_place l) true ∷ [])) owes)), sound p (set ws j (bit_or (get_or ws j 0) bits)) views id m.0 w after there))) in
       subst Q (sym at) (subst P is own place edges)
 
+  -- A dependency is counted off.
   pub count_edge_allowed : (t : ℕ) (outcome : Outcome) (e u i : ℕ) → i ≡ open_deps_at o.program u → m.0.owes ≡ Tell t outcome e true ∷ drop 1 m.0.owes → slice_get ((graph_in o).successors t) e ≡ Some u
       → Allows (Holds o) n id m i (λ y. (y + (2 ^ 64 - 1)) % 2 ^ 64) (TellsCountEdge (step n i 1 0 none) m)
   count_edge_allowed t outcome e u i at owes place =
@@ -118,6 +123,7 @@ module _ (o : Opening) (n id : ℕ) (m : Token) (core : ℕ) (is : m.0.opening �
 
   -- ---- a task whose dependencies are counted
 
+  -- The state of a task to be decided is loaded.
   pub state_allowed : (u i : ℕ) → i ≡ state_at o.program u → m.0.owes ≡ Decide u ∷ drop 1 m.0.owes
       → Allows (Holds o) n id m i (λ y. y) (TellsState (step n i 0 0 none) m)
   state_allowed u i at owes =
@@ -137,6 +143,7 @@ module _ (o : Opening) (n id : ℕ) (m : Token) (core : ℕ) (is : m.0.opening �
       )) in
       subst Q (sym at) (subst P is own)
 
+  -- The task is armed.
   pub arm_allowed : (t i : ℕ) → i ≡ alloc_at o.program t → m.0.owes ≡ Arm t ∷ drop 1 m.0.owes
       → Allows (Holds o) n id m i (λ _. 1) (λ _. TellsArm (step n i 1 0 none) m 1)
   arm_allowed t i at owes =

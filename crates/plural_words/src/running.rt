@@ -1,7 +1,7 @@
 //! Running an instance, from its start ticket until it is done.
-ghost use Rattle.std.specs.Prelude.{◌≡◌, ◌+◌, ◌^◌, ◌<◌, ◌≤◌, true, slice_index, Some, None};
+ghost use Rattle.std.specs.Prelude.{◌≡◌, ◌<◌, true, slice_index, Some, None};
 ghost use Rattle.plural_base.specs.Told.{IsNext};
-ghost use Rattle.plural_rule.specs.Layout.{clock_at, word_count};
+ghost use Rattle.plural_rule.specs.Layout.{clock_at};
 ghost use Rattle.plural_rule.specs.Stages.{noted_of};
 ghost use Rattle.plural_rule.specs.Steps.{began, did_read, stored, ended, did_note, finished};
 ghost use Rattle.plural_words.specs.Fields.{number_of};

@@ -7,7 +7,7 @@ ghost use Rattle.plural_counters.specs.Counters.{IsSound};
 ghost use Rattle.plural_counters.specs.Steps.{tell_first, tell_next, on_decision};
 ghost use Rattle.plural_counters.specs.declared.duty.Duty.TheVariants.{Flag, Count, Close, Tell, Decide, Arm};
 ghost use Rattle.plural_rule.specs.Opening.{task_count, graph_in, ends_of, edges_of, outcome_of};
-ghost use Rattle.plural_rule.specs.Layout.{alloc_at, flags_at, left_at, state_at, open_deps_at};
+ghost use Rattle.plural_rule.specs.Layout.{flags_at, left_at, state_at, open_deps_at};
 ghost use Rattle.plural_rule.specs.Kept.{duties};
 ghost use Rattle.plural_rule.specs.Steps.{armed};
 ghost use Rattle.plural_words.specs.Seen.{IsSeatOf, seat_with};
