@@ -3,3 +3,4 @@ pub mod NameFields
 pub mod NameBack
 pub mod Told
 pub mod CacheShape
+pub mod Stores

@@ -1,10 +1,10 @@
 -- The stores, the counts and the ends of lives.
 use Rattle.std.proofs.Common.{ℕ, zero, suc, ◌≡◌, ◌+◌, ◌<◌, ◌≤◌, Bool, true, false, if◌then◌else◌, ◌==◌, List, [], ◌∷◌, ◌++◌, length, Option, Some, None, refl, sym, ap, ◌∙◌, arith, length-append}
 use Rattle.std.specs.Prelude.{slice_set, IfSome}
+use Rattle.plural_base.specs.Stores.{sets}
 use Rattle.plural_core.specs.Act.{get}
 use Rattle.plural_core.specs.Turn.{State, Place, Step, turn, spent, loads_of, code_of}
 use Rattle.plural_core.specs.Life.{life, join, stay, unless_over}
-use Rattle.plural_core.specs.Stores.{sets}
 use Rattle.plural_core.specs.Ends.{IsEnd}
 use Rattle.plural_core.specs.Laws.{TurnsJoin, StoresSet, IsFew, FewInTurns, CausesKnown}
 use Rattle.plural_core.specs.declared.end.End.{End}

@@ -1,8 +1,8 @@
 -- What holds of the life of an instance after any number of its turns. (This project's own.)
 use Rattle.std.specs.Prelude.{ℕ, ◌≡◌, ◌+◌, ◌<◌, ◌≤◌, ◌^◌, List, length, IfSome}
+use Rattle.plural_base.specs.Stores.{sets}
 use Rattle.plural_core.specs.Turn.{State, Place, Step}
 use Rattle.plural_core.specs.Life.{life, join}
-use Rattle.plural_core.specs.Stores.{sets}
 use Rattle.plural_core.specs.Ends.{IsEnd}
 
 -- The turns of a life are its first i and then its next j.

@@ -10,5 +10,4 @@ pub mod Port
 pub mod Life
 pub mod Footprint
 pub mod Ends
-pub mod Stores
 pub mod Laws

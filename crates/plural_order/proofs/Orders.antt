@@ -1,7 +1,7 @@
 -- Any order of a world's instances.
 use Rattle.std.proofs.Common.{◌≡◌, ℕ, Bool, true, false, ◌&&◌, ◌||◌, List, [], ◌∷◌, ◌++◌, get_or, refl, sym, ap, ◌∙◌, subst, ⊎_elim, append-nil}
 use Rattle.std.proofs.lemmas.Bool.{both_ways, cases_Bool, and_right, or_cases, or_right, false_from_ne_true}
-use Rattle.plural_core.specs.Stores.{sets}
+use Rattle.plural_base.specs.Stores.{sets}
 use Rattle.plural_serial.specs.Instances.{Inst as Instance, same, is_in}
 use Rattle.plural_serial.proofs.Records.{same_self}
 use Rattle.plural_order.specs.World.{World, Life, after, run, start_at, leaves, Ordered, Runs, IsWorld, IsOrder, last_value}

@@ -5,7 +5,7 @@ use Rattle.std.specs.List.{All}
 use Rattle.std.proofs.Math.ListN.{length-set}
 use Rattle.std.proofs.lemmas.Bool.{both_ways}
 use Rattle.std.proofs.lemmas.List.Elements.{All-head, All-tail}
-use Rattle.plural_core.specs.Stores.{sets}
+use Rattle.plural_base.specs.Stores.{sets}
 
 -- Stores keep a memory's length.
 pub sets_long : (m : List ℕ) (ss : List (ℕ × ℕ)) → length (sets m ss) ≡ length m

@@ -4,7 +4,7 @@ use Rattle.std.specs.Prelude.{slice_set}
 use Rattle.std.proofs.lemmas.Bool.{both_ways, cases_Bool, or_left, false_from_ne_true}
 use Rattle.std.proofs.lemmas.List.{take_all, take_at, length_push}
 use Rattle.std.proofs.lemmas.List.Elements.{All-take}
-use Rattle.plural_core.specs.Stores.{sets}
+use Rattle.plural_base.specs.Stores.{sets}
 use Rattle.plural_core.proofs.LifeLaws.{sets_append}
 use Rattle.plural_serial.specs.Instances.{Inst as Instance, is_in}
 use Rattle.plural_order.specs.World.{start_at, leaves, value_at, Ordered, Runs}

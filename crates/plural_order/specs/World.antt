@@ -2,7 +2,7 @@
 -- is data of the world, and so is the type of its end; nothing here knows how it comes about. (This project's own.)
 use Rattle.std.specs.Prelude.{◌≡◌, ℕ, Bool, true, false, ◌&&◌, cond, List, [], ◌∷◌, length, take, slice_index}
 use Rattle.std.specs.List.{All}
-use Rattle.plural_core.specs.Stores.{sets}
+use Rattle.plural_base.specs.Stores.{sets}
 use Rattle.plural_serial.specs.Instances.{Inst as Instance, same, is_in}
 
 -- What an instance does over a memory, alone: how it ends, how many instructions it completes, the words of its load

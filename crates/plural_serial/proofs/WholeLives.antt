@@ -3,10 +3,10 @@ use Rattle.std.proofs.Common.{ℕ, true, ◌≡◌, ◌<◌, ◌^◌, List, [], 
 use Rattle.std.specs.Prelude.{slice_index, IfSome}
 use Rattle.std.specs.List.{All}
 use Rattle.std.proofs.lemmas.List.Elements.{All-nil, All-cons}
+use Rattle.plural_base.specs.Stores.{sets}
 use Rattle.plural_regions.specs.Rights.{may_write}
 use Rattle.plural_regions.proofs.Regions.{may_read_from_write}
 use Rattle.plural_core.specs.Ends.{IsEnd}
-use Rattle.plural_core.specs.Stores.{sets}
 use Rattle.plural_core.specs.declared.end.End.{End}
 use Rattle.plural_core.proofs.Guards.{guarded_life}
 use Rattle.plural_core.proofs.Lives.{life_ends, words_kept}

@@ -1,9 +1,9 @@
 -- What holds of the serial run. (This project's own.)
 use Rattle.std.specs.Prelude.{ℕ, ◌≡◌, ◌<◌, ◌≤◌, ◌↔◌, true, List, length, Some}
 use Rattle.std.specs.List.{All}
+use Rattle.plural_base.specs.Stores.{sets}
 use Rattle.plural_regions.specs.Rights.{may_write}
 use Rattle.plural_core.specs.Ends.{IsEnd}
-use Rattle.plural_core.specs.Stores.{sets}
 use Rattle.plural_map.specs.declared.outcome.Decision.TheVariants as decision
 use Rattle.plural_map.specs.Limits.{IsMap}
 use Rattle.plural_serial.specs.Program.{ProgramValue, IsProgram, task_at, life_of}

@@ -2,7 +2,7 @@ pub use Rattle.plural_base.specs.Told
 pub use Rattle.plural_core.specs.Turn
 pub use Rattle.plural_core.specs.Life
 pub use Rattle.plural_core.specs.Ends
-pub use Rattle.plural_core.specs.Stores
+pub use Rattle.plural_base.specs.Stores
 pub use Rattle.plural_cache.specs.Bus
 pub use Rattle.plural_cache.specs.Miss
 pub use Rattle.plural_cache.specs.Cache
