@@ -3,7 +3,9 @@ ghost use Rattle.std.specs.Prelude.{◌≡◌, ◌<◌, slice_index};
 
 use crate::field::Field;
 use crate::key::Key;
+use crate::law::Law;
 use crate::place::Place;
+use atomic_table::Table;
 use plural_rule::View;
 use std::alloc::Global;
 use std::marker::Model;
@@ -14,7 +16,7 @@ pub struct Closed {
     pub(crate) inner: atomic_table::Closed<(), Global>,
     pub(crate) places: Vec<Place>,
     pub(crate) counters: usize,
-    pub(crate) key: Key,
+    pub(crate) table: Snapshot<Table<(), View, Key, Law, Global>>,
     pub(crate) root: Snapshot<atomic_table::Seat<(), View>>,
 }
 
@@ -27,9 +29,9 @@ impl Model for Closed {
 
     ghost Value = { ClosedSeen };
 
-    ghost view = { λ c. record { opening = c.key; words = slots_items c.inner.words; root = c.root.value.me.0 } };
+    ghost view = { λ c. record { opening = c.table.value.shared.key; words = slots_items c.inner.words; root = c.root.value.me.0 } };
 
-    ghost invariant = { λ c. (IsFull c.inner.words × (slots_len c.inner.slots ≡ 0) × (slots_len c.inner.words ≡ word_count c.key.program)) × HasPlaces c.key.program c.places.items c.counters × IsClosed (record { opening = c.key; words = slots_items c.inner.words; root = c.root.value.me.0 }) };
+    ghost invariant = { λ c. (IsFull c.inner.words × (slots_len c.inner.slots ≡ 0) × (slots_len c.inner.words ≡ word_count c.table.value.shared.key.program)) × HasPlaces c.table.value.shared.key.program c.places.items c.counters × IsClosed (record { opening = c.table.value.shared.key; words = slots_items c.inner.words; root = c.root.value.me.0 }) };
 }
 
 impl Closed {
@@ -61,7 +63,7 @@ impl Drop for Closed {
             inner,
             places,
             counters: _,
-            key: _,
+            table: _,
             root: _,
         } = self;
         drop(places);

@@ -8,7 +8,7 @@ use std::snapshot::Snapshot;
 /// A program, the words that a table is opened with, of which the image comes first, and how many cores there are.
 /// Contracts see the opening that these are.
 #[derive(Drop)]
-pub struct Key {
+pub(crate) struct Key {
     program: Snapshot<Program>,
     words: Snapshot<Vec<u64>>,
     cores: Snapshot<u32>,

@@ -20,6 +20,5 @@ mod words;
 
 pub use closed::Closed;
 pub use field::Field;
-pub use key::Key;
 pub use seat::{Root, Seat};
 pub use words::Words;

@@ -26,7 +26,6 @@ pub struct Words {
     pub(crate) counters: usize,
     pub(crate) memory: u32,
     pub(crate) cores: u32,
-    pub(crate) key: Key,
 }
 
 impl Model for Words {
@@ -39,7 +38,7 @@ impl Model for Words {
 
     ghost view = { λ w. record { table = w.table.shared.table_id; opening = w.table.shared.key } };
 
-    ghost invariant = { λ w. HasPlaces w.table.shared.key.program w.places.items w.counters × (w.table.shared.table_id.words ≡ word_count w.table.shared.key.program) × (w.memory ≡ w.table.shared.key.program.map.words) × (w.cores ≡ w.table.shared.key.cores) × (w.key ≡ w.table.shared.key) × (w.table.shared.table_id.slots ≡ 0) };
+    ghost invariant = { λ w. HasPlaces w.table.shared.key.program w.places.items w.counters × (w.table.shared.table_id.words ≡ word_count w.table.shared.key.program) × (w.memory ≡ w.table.shared.key.program.map.words) × (w.cores ≡ w.table.shared.key.cores) × (w.table.shared.table_id.slots ≡ 0) };
 }
 
 impl Words {
@@ -81,7 +80,6 @@ impl Words {
                 counters,
                 memory,
                 cores,
-                key,
             },
             Root { token },
         ))
@@ -151,16 +149,16 @@ impl Words {
             counters,
             memory: _,
             cores: _,
-            key,
         } = self;
         let Root { token } = root;
         let seen = Snapshot::of(&token);
+        let opened = Snapshot::of(&table);
         let inner = table.close_with(token);
         Closed {
             inner,
             places,
             counters,
-            key,
+            table: opened,
             root: seen,
         }
     }

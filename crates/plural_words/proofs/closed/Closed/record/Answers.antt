@@ -13,28 +13,28 @@ use Rattle.plural_words.proofs.closed.Closed.record.Goals as goal
 pub overflow_add-index : goal.overflow_add-index
 overflow_add-index c =
     let inst = subst (λ (x : ClosedSeen). IsInstance x.opening.program c.args.t c.args.k) (sym c.self.view_is) c.requires.instance in
-    let p = c.self.inside.key.program in
+    let p = c.self.inside.table.value.shared.key.program in
     let place = ap (λ (x : Place). x.records) (c.index.ensures ∙ place_is p _ _ _ c.index.result.now c.self.invariant.1 inst.0) in
     record { fits = omega (arith, place, field_low p c.args.t c.args.k 7 inst (omega arith), counters_low p _ _ c.self.invariant.1) }
 
 pub overflow_add-index-2 : goal.overflow_add-index-2
 overflow_add-index-2 c =
     let inst = subst (λ (x : ClosedSeen). IsInstance x.opening.program c.args.t c.args.k) (sym c.self.view_is) c.requires.instance in
-    let p = c.self.inside.key.program in
+    let p = c.self.inside.table.value.shared.key.program in
     let place = ap (λ (x : Place). x.records) (c.index.ensures ∙ place_is p _ _ _ c.index.result.now c.self.invariant.1 inst.0) in
     record { fits = omega (arith, place, c.number.ensures, number_low c.args.field, field_low p c.args.t c.args.k 7 inst (omega arith), counters_low p _ _ c.self.invariant.1) }
 
 pub word-requires : goal.word-requires
 word-requires c =
     let inst = subst (λ (x : ClosedSeen). IsInstance x.opening.program c.args.t c.args.k) (sym c.self.view_is) c.requires.instance in
-    let p = c.self.inside.key.program in
+    let p = c.self.inside.table.value.shared.key.program in
     let place = ap (λ (x : Place). x.records) (c.index.ensures ∙ place_is p _ _ _ c.index.result.now c.self.invariant.1 inst.0) in
     (omega (arith, place, c.self.invariant.0.2, c.number.ensures, number_low c.args.field, field_low p c.args.t c.args.k 7 inst (omega arith)), c.self.invariant.0.0)
 
 pub returns : goal.returns
 returns c =
     let inst = subst (λ (x : ClosedSeen). IsInstance x.opening.program c.args.t c.args.k) (sym c.self.view_is) c.requires.instance in
-    let p = c.self.inside.key.program in
+    let p = c.self.inside.table.value.shared.key.program in
     let place = ap (λ (x : Place). x.records) (c.index.ensures ∙ place_is p _ _ _ c.index.result.now c.self.invariant.1 inst.0) in
     let at : c.index.result.now.records + 8 * c.args.k + c.number.result ≡ field_at p c.args.t c.args.k (number_of c.args.field) = omega (arith, place, c.number.ensures) in
     word_at (slots_items c.self.inside.inner.words) (c.index.result.now.records + 8 * c.args.k + c.number.result) c.word.result c.word.ensures

@@ -11,21 +11,24 @@ use Rattle.plural_words.proofs.Closes.{closed_by}
 use Rattle.plural_words.proofs.words.Words.close.Goals as goal
 use Rattle.plural_words.proofs.words.Words.close.Goals.{After-close_with-inner}
 
-closed : (c : After-close_with-inner) → IsClosed (record { opening = c.self.inside.key; words = slots_items c.close_with-inner.result.words; root = c.of-seen.result.value.me.0 })
+opened : (c : After-close_with-inner) → c.of-opened.result.value.shared.key ≡ c.self.inside.table.shared.key
+opened c = ap (λ t. t.shared.key) c.of-opened.ensures
+
+closed : (c : After-close_with-inner) → IsClosed (record { opening = c.of-opened.result.value.shared.key; words = slots_items c.close_with-inner.result.words; root = c.of-seen.result.value.me.0 })
 closed c =
     let is = root_inside c.self.view_is c.root.view_is c.requires.of in
     let alone = root_view_of (λ v. outs_of v.role ≡ []) c.root.view_is c.requires.alone in
     let own = closed_by c.self.inside.table.shared.key _ c.root.inside.token.me.0 _ _ c.root.invariant.1 is.role alone c.close_with-inner.ensures.values.2 in
-    let keyed = subst (λ (o : Opening). IsClosed (record { opening = o; words = slots_items c.close_with-inner.result.words; root = c.root.inside.token.me.0 })) (sym c.self.invariant.4) own in
-    subst (λ (v : View). IsClosed (record { opening = c.self.inside.key; words = slots_items c.close_with-inner.result.words; root = v })) (sym (ap (λ t. t.me.0) c.of-seen.ensures)) keyed
+    let keyed = subst (λ (o : Opening). IsClosed (record { opening = o; words = slots_items c.close_with-inner.result.words; root = c.root.inside.token.me.0 })) (sym (opened c)) own in
+    subst (λ (v : View). IsClosed (record { opening = c.of-opened.result.value.shared.key; words = slots_items c.close_with-inner.result.words; root = v })) (sym (ap (λ t. t.me.0) c.of-seen.ensures)) keyed
 
 pub invariant_of-result : goal.invariant_of-result
 invariant_of-result c =
     let d = (goal.at.invariant_of-result c).After-close_with-inner in
-    let key = c.self.invariant.4 in (
+    let key = opened d in (
       (
         c.close_with-inner.ensures.values.0,
-        c.close_with-inner.ensures.counts.1 ∙ c.self.invariant.5,
+        c.close_with-inner.ensures.counts.1 ∙ c.self.invariant.4,
         c.close_with-inner.ensures.counts.0 ∙ (c.self.invariant.1 ∙ ap (λ (o : Opening). word_count o.program) (sym key)),
       ),
       subst (λ (o : Opening). HasPlaces o.program c.self.inside.places.items c.self.inside.counters) (sym key) c.self.invariant.0,

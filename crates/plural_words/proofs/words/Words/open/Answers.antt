@@ -36,6 +36,6 @@ invariant_of-result c =
     let start = opens o c.as_slice.result.now ok (λ a h. omega (arith, low a)) (c.as_slice.ensures.value ∙ c.in_ok-words.ensures) in
     let made = c.in_ok-table.ensures in
     let memory : c.words-memory.result ≡ c.args.program.now.map.words = c.words-memory.ensures.value ∙ ap (λ (m : MapValue). m.words) c.map.ensures in
-    let P : Opening → Type 0 = λ k. HasPlaces k.program c.in_ok-places.places.items c.in_ok-places.counters × (c.in_ok-table.table.shared.table_id.words ≡ word_count k.program) × (c.words-memory.result ≡ k.program.map.words) × (c.args.cores ≡ k.cores) × (c.of-key.result ≡ k) × (c.in_ok-table.table.shared.table_id.slots ≡ 0) in
-    let own : P o = (record { small = small_of o ok; places = c.in_ok-places.ensures }, made.0 ∙ start.long, memory, refl, key d, made.1) in
+    let P : Opening → Type 0 = λ k. HasPlaces k.program c.in_ok-places.places.items c.in_ok-places.counters × (c.in_ok-table.table.shared.table_id.words ≡ word_count k.program) × (c.words-memory.result ≡ k.program.map.words) × (c.args.cores ≡ k.cores) × (c.in_ok-table.table.shared.table_id.slots ≡ 0) in
+    let own : P o = (record { small = small_of o ok; places = c.in_ok-places.ensures }, made.0 ∙ start.long, memory, refl, made.1) in
     subst P (sym (made.5 ∙ key d)) own
