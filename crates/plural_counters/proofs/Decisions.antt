@@ -54,7 +54,7 @@ module _ (g : TaskGraph) (c : Counters) (l : List Duty) (u : ℕ) (r : IsCounted
           (λ ne. mask_open _ b (omega (arith, ne, all_counted t h, sum_le (counted_of g t u) (marked_of g t u) l (counted_marked g t u))) ∙ sym (mask_open _ b (omega (arith, ne))))
 
   -- Its state says what is decided of it.
-  decision_is : decision_of_state g u (c.state u) ≡ decision_by g u
+  pub decision_is : decision_of_state g u (c.state u) ≡ decision_by g u
   decision_is = ap (λ n. decide_by (g.some u) (g.deps u) n (bit_at (c.state u) 1) (bit_at (c.state u) 2)) (state_is 0)
       ∙ (ap (λ n. decide_by (g.some u) (g.deps u) (any_edge g u 0) n (bit_at (c.state u) 2)) (state_is 1)
       ∙ ap (λ n. decide_by (g.some u) (g.deps u) (any_edge g u 0) (any_edge g u 1) n) (state_is 2))

@@ -210,7 +210,7 @@ module _ (g : TaskGraph) (c : Counters) (l : List Duty) (t : ℕ) (r : IsCounted
   ended_of : MayRun g c.done t → HasEnded g c.done t
   ended_of may = record { own = λ k ran. let i = r.graph.ran_instances t k ran in dite (ℕ_discrete (c.done t k) 0) (λ z. absurd (omega (arith, (all_counted k i.1).0, sign_none (c.done t k) z))) (λ ne. omega arith); earlier = may.earlier }
 
-  outcome_is : MayRun g c.done t → outcome_of_flags (c.flags t) ≡ g.outcome t
+  pub outcome_is : MayRun g c.done t → outcome_of_flags (c.flags t) ≡ g.outcome t
   outcome_is may = ap (λ n. outcome_by n (bit_at (c.flags t) 0)) (flags_are 1) ∙ (ap (λ n. outcome_by (any_end g t 1) n) (flags_are 0) ∙ sym (r.graph.outcome_ran t small may.runs))
 
 -- A task that has ended begins to be told, in place of a duty that said its phase.

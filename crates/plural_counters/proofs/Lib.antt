@@ -8,4 +8,5 @@ pub mod Views
 pub mod SoundViews
 pub mod Openings
 pub mod AllTold
+pub mod ToldOutcomes
 pub mod TwoTasks

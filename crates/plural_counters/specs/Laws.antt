@@ -7,6 +7,7 @@ use Rattle.std.specs.Int.Bits.{bit_or}
 use mathlib.Core.Option.{some}
 use lib.ListN.{get_elem?}
 use Rattle.plural_map.specs.declared.outcome.Outcome.{Outcome}
+use Rattle.plural_map.specs.declared.outcome.Outcome.TheVariants as outcome
 use Rattle.plural_map.specs.declared.outcome.Decision.{Decision}
 use Rattle.plural_map.specs.declared.outcome.Decision.TheVariants as decision
 use Rattle.plural_map.specs.Limits.{IsMap}
@@ -185,6 +186,36 @@ abbrev pub AllTold : Type 0
 AllTold = (g : TaskGraph) (c : Counters) (l : List Duty) → IsCounted g c l → All IsTold l
     → ((t k : ℕ) → t < g.tasks → 1 ≤ c.alloc t → k < g.quota t → 0 < c.done t k)
     → (t : ℕ) → t < g.tasks → IsToldOnce g l t
+
+-- ---- a task that was told
+
+-- A task that was told is one of the graph, and was told its outcome.
+pub record IsToldOutcome (g : TaskGraph) (t : ℕ) (o : Outcome) : Type 0 where
+  pub task : t < g.tasks
+  pub outcome : o ≡ g.outcome t
+
+-- So it is of each task that was told.
+abbrev pub ToldOutcome : Type 0
+ToldOutcome = (g : TaskGraph) (c : Counters) (l : List Duty) (t : ℕ) (o : Outcome) → IsCounted g c l
+    → Contains l (Told t o) → IsToldOutcome g t o
+
+-- The outcome of a task that isn't to run, by its state: failed if a dependency is failed, else skipped.
+abbrev pub outcome_of_state : (state : ℕ) → Outcome
+outcome_of_state state = cond (bit_at state 0 == 0) outcome.Skipped outcome.Failed
+
+-- The outcome that the counters of a task say: its flags if it was armed, else its state.
+abbrev pub outcome_of_counters : Counters → (t : ℕ) → Outcome
+outcome_of_counters c t = cond (c.alloc t == 0) (outcome_of_state (c.state t)) (outcome_of_flags (c.flags t))
+
+-- All instances of a task run if it is armed, and none is done if it isn't.
+pub record RunsAsArmed (g : TaskGraph) (c : Counters) (t : ℕ) : Type 0 where
+  pub runs : 1 ≤ c.alloc t → (k : ℕ) → k < g.quota t → g.ran t k ≡ true
+  pub undone : c.alloc t ≡ 0 → (k : ℕ) → k < g.quota t → c.done t k ≡ 0
+
+-- The counters of a task that was told say its outcome.
+abbrev pub CountersTell : Type 0
+CountersTell = (g : TaskGraph) (c : Counters) (l : List Duty) (t : ℕ) (o : Outcome) → IsCounted g c l
+    → Contains l (Told t o) → RunsAsArmed g c t → outcome_of_counters c t ≡ g.outcome t
 
 -- ---- no law is empty
 

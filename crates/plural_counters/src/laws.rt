@@ -3,7 +3,7 @@ ghost use Rattle.plural_counters.specs.Laws.{Stays, HandsOut, Finishes, Marks, C
 ghost use Rattle.plural_counters.specs.Laws.{MarksEdge, CountsEdge, LoadsState, Arms, PendingDone};
 ghost use Rattle.plural_counters.specs.Laws.{OneViewReplaces, OneDutyReplaces, SplitKeepsDuties, JoinKeepsDuties};
 ghost use Rattle.plural_counters.specs.Laws.{ViewsAreSound, RoomForPhases, ProgressBounded, FirstCounted};
-ghost use Rattle.plural_counters.specs.Laws.{ProgramCounted, AllTold, EachDutyOwed};
+ghost use Rattle.plural_counters.specs.Laws.{ProgramCounted, AllTold, ToldOutcome, CountersTell, EachDutyOwed};
 
 /// A step on another word that changes no duty keeps the rule.
 pub fn stay()
@@ -108,6 +108,16 @@ pub fn program_counted()
 /// Once nothing is owed and all that was armed is done, each task was told its outcome.
 pub fn all_told()
     ensures { AllTold }
+{}
+
+/// A task that was told was told its outcome.
+pub fn told_outcome()
+    ensures { ToldOutcome }
+{}
+
+/// The counters of a task that was told say its outcome.
+pub fn counters_tell()
+    ensures { CountersTell }
 {}
 
 /// Each kind of duty can be owed under the rule, with what its step wants besides: no law of a step is empty.

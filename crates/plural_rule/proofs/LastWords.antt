@@ -1,8 +1,10 @@
 -- If no seat is out: what the root knows, and what the words are.
 use Rattle.std.proofs.Common.{◌≡◌, ℕ, zero, suc, ◌+◌, ◌<◌, ◌≤◌, List, [], ◌∷◌, ◌++◌, length, get_or, All, Contains, sym, refl, ap, ◌∙◌, subst, ⊎_elim, arith}
+use mathlib.Core.Logic.{dite}
+use native.Mathlib.Decide.{ℕ_discrete}
 use mathlib.Core.Option.{some, some-injective}
 use lib.ListN.{get_elem?}
-use Rattle.std.proofs.lemmas.List.Elements.{All-append, All-cons, All-nil, All-contains, Contains-append_cases}
+use Rattle.std.proofs.lemmas.List.Elements.{All-append, All-cons, All-nil, All-contains, Contains-append_cases, Contains-append_right}
 use Rattle.plural_map.specs.declared.outcome.Outcome.{Outcome}
 use Rattle.plural_map.specs.declared.outcome.Outcome.TheVariants as outcome
 use Rattle.plural_order.specs.Sums.{sum_over}
@@ -15,13 +17,14 @@ use Rattle.plural_counters.specs.declared.duty.Duty.TheVariants.{Told}
 use Rattle.plural_counters.proofs.Sums.{term_at, one_same, sum_le}
 use Rattle.plural_counters.proofs.Views.{duty_there}
 use Rattle.plural_counters.proofs.AllTold as counter
+use Rattle.plural_counters.proofs.ToldOutcomes as counter_outcome
 use Rattle.plural_rule.specs.Opening.{Opening, IsInstance, Runs, graph_in, world_in, outcome_of, task_count, quota_of}
 use Rattle.plural_rule.specs.Content.{Content, content}
 use Rattle.plural_rule.specs.Stages.{holds, has_begun, drawn, is_seat}
 use Rattle.plural_rule.specs.Rule.{IsRole, HasSeats, OwesAsRole, is_done, Rule}
 use Rattle.plural_rule.specs.Last.{tickets_drawn}
 use Rattle.plural_rule.specs.Kept.{duties, counters}
-use Rattle.plural_rule.specs.Laws.{AllTold, ClosesWords}
+use Rattle.plural_rule.specs.Laws.{AllTold, ToldOutcome, ClosesWords}
 use Rattle.plural_rule.specs.declared.view.View.{View}
 use Rattle.plural_rule.specs.declared.view.Stage.TheVariants.{Free}
 use Rattle.plural_rule.specs.declared.view.Role.{Role}
@@ -149,6 +152,21 @@ told_there l t o c = at_place l c.0 c.1 c.2
     at_place [] i h e = absurd (omega arith)
     at_place (x ∷ xs) zero h e = (0, omega arith, ap (λ (y : ℕ × Outcome). Told y.0 y.1) e)
     at_place (x ∷ xs) (suc i) h e = let q = at_place xs i (omega arith) e in let low = q.1 in (suc q.0, omega arith, q.2)
+
+-- A task that a view has told was told its outcome, and its counters say it.
+pub told_outcome : ToldOutcome
+told_outcome o ws views id v t q k at told =
+    let c = content o.program ws in let r = k.rule in
+    let there = duty_there duties views id v (Told t q) at (Contains-append_right v.owes (as_duties v.told) (Told t q) (told_there v.told t q told)) in
+    let own = counter_outcome.told_outcome (graph_in o) (counters c) (duties_of duties views) t q k.counted there in
+    record {
+      task = own.task;
+      outcome = own.outcome;
+      counters = counter_outcome.counters_tell (graph_in o) (counters c) (duties_of duties views) t q k.counted there (record {
+        runs = λ armed. (r.tasks.armed t own.task armed).runs;
+        undone = λ none n few. dite (ℕ_discrete (c.done t n) 0) (λ z. z) (λ ne. absurd (omega (arith, done_armed o c views t n r.held (own.task, few) (omega (arith, ne)), none)));
+      });
+    }
 
 -- What the words say then.
 pub closes_words : ClosesWords

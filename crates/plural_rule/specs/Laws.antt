@@ -2,6 +2,7 @@
 -- splits and joins); the other views may be any. (This project's own.)
 use Rattle.std.specs.Prelude.{ℕ, ◌≡◌, ◌≢◌, ◌+◌, ◌-◌, ◌*◌, ◌^◌, ◌<◌, ◌≤◌, ◌==◌, false, true, cond, List, [], ◌∷◌, ◌++◌}
 use Rattle.std.specs.Prelude.{length, drop, slice_get, slice_index, slice_set, Some}
+use Rattle.std.specs.List.{Contains}
 use Rattle.std.specs.Int.Bits.{bit_or}
 use mathlib.Core.Option.{some}
 use lib.ListN.{get_elem?}
@@ -12,7 +13,7 @@ use Rattle.plural_order.specs.Sums.{sum_over, times}
 use Rattle.plural_order.specs.TaskGraph.{decision_by}
 use Rattle.plural_counters.specs.Counters.{IsSound}
 use Rattle.plural_counters.specs.Steps.{tell_first, tell_next, on_decision}
-use Rattle.plural_counters.specs.Laws.{outcome_of_flags, decision_of_state}
+use Rattle.plural_counters.specs.Laws.{outcome_of_flags, decision_of_state, outcome_of_counters}
 use Rattle.plural_counters.specs.declared.duty.Duty.{Duty}
 use Rattle.plural_counters.specs.declared.duty.Duty.TheVariants.{Flag, Count, Close, Tell, Decide, Arm}
 use Rattle.plural_rule.specs.Opening.{Opening, IsInstance, HasSerialRun, MayRead, world_in, graph_in, stores_of}
@@ -27,7 +28,7 @@ use Rattle.plural_rule.specs.Steps.{armed, root_after, new_seat, joined, spent, 
 use Rattle.plural_rule.specs.Content.{Content, content}
 use Rattle.plural_rule.specs.First.{first_words}
 use Rattle.plural_rule.specs.Last.{KnowsWhole, HasTold, done_count, tickets_drawn, IsLast}
-use Rattle.plural_rule.specs.Kept.{Kept, duties}
+use Rattle.plural_rule.specs.Kept.{Kept, duties, counters}
 use Rattle.plural_rule.specs.declared.view.View.{View}
 use Rattle.plural_rule.specs.declared.view.Stage.TheVariants.{Free, Got, Begun, Ended}
 use Rattle.plural_rule.specs.declared.view.Role.TheVariants.{Seat, Root}
@@ -244,6 +245,17 @@ OpensWords = (o : Opening) → IsOpening o.program o.image
 abbrev pub AllTold : Type 0
 AllTold = (o : Opening) (words : List ℕ) (views : List View) (v : View) → Kept o words views
     → get_elem? views 0 ≡ some v → v.role ≡ Root [] → KnowsWhole o v → HasTold o v
+
+-- A task that a view has told was told its outcome in the serial run, and its counters say it.
+pub record IsToldAsRun (o : Opening) (words : List ℕ) (t : ℕ) (told : Outcome) : Type 0 where
+  pub task : t < task_count o.program
+  pub outcome : told ≡ outcome_of o t
+  pub counters : outcome_of_counters (counters (says o words)) t ≡ outcome_of o t
+
+-- So it is of each task that a view has told.
+abbrev pub ToldOutcome : Type 0
+ToldOutcome = (o : Opening) (words : List ℕ) (views : List View) (id : ℕ) (v : View) (t : ℕ) (told : Outcome)
+    → Kept o words views → get_elem? views id ≡ some v → Contains v.told (t, told) → IsToldAsRun o words t told
 
 -- If no seat is out and the root has told each task, the words are the last ones.
 abbrev pub ClosesWords : Type 0

@@ -3,7 +3,7 @@ ghost use Rattle.plural_rule.specs.Laws.{LoadsAlloc, TakesInstance, LosesInstanc
 ghost use Rattle.plural_rule.specs.Laws.{StoresMemory, EndsInstance, NotesField, FinishesInstance, MarksEnd};
 ghost use Rattle.plural_rule.specs.Laws.{CountsInstance, LoadsFlags, MarksDependency, CountsDependency, LoadsState};
 ghost use Rattle.plural_rule.specs.Laws.{ArmsTask, DutiesSound, SplitsSeat, JoinsSeat, OpensWords, AllTold};
-ghost use Rattle.plural_rule.specs.Laws.{ClosesWords};
+ghost use Rattle.plural_rule.specs.Laws.{ToldOutcome, ClosesWords};
 ghost use Rattle.plural_rule.specs.Laws.{PlacesWithin};
 ghost use Rattle.plural_rule.specs.Laws.{ClockCounts};
 ghost use Rattle.plural_rule.specs.Named.{SerialRunNamed};
@@ -111,6 +111,11 @@ pub fn open_words()
 /// A lone root that knows each armed task as wholly handed out has told every task.
 pub fn all_told()
     ensures { AllTold }
+{}
+
+/// A task that a view has told was told its outcome in the serial run, and its counters say it.
+pub fn told_outcome()
+    ensures { ToldOutcome }
 {}
 
 /// If a lone root has told every task, the memory is that of the serial run, and exactly its instances are done, each
