@@ -47,18 +47,19 @@ pub record AtMap (input all r1 r2 lines back : List TextLine) (labels : List (Li
   pub whole : r2 ≡ lines ++ back
   pub shut : IsClosed back
 
--- And up to the kernels' lines.
-pub record AtKernels (input all r1 r2 maps back r4 lines after : List TextLine) (labels : List (List ℕ)) (version number : ℕ) : Type 0 where
+-- And up to the kernels' lines, by way of this map.
+pub record AtKernels (input all r1 r2 maps back r4 lines after : List TextLine) (labels : List (List ℕ)) (version number : ℕ) (tasks : MapValue) : Type 0 where
   pub at_map : AtMap input all r1 r2 maps back labels version
   pub good : IsMapText version labels maps number
+  pub value : tasks ≡ map_of maps
   pub header : IsHeaded (codes "[kernels]") back r4
   pub own : lines ≡ up_to_header r4
   pub whole : r4 ≡ lines ++ after
   pub shut : IsClosed after
 
 -- And up to the image's lines.
-pub record AtImage (input all r1 r2 maps back r4 kernels after r6 lines last : List TextLine) (labels : List (List ℕ)) (version number : ℕ) : Type 0 where
-  pub at_kernels : AtKernels input all r1 r2 maps back r4 kernels after labels version number
+pub record AtImage (input all r1 r2 maps back r4 kernels after r6 lines last : List TextLine) (labels : List (List ℕ)) (version number : ℕ) (tasks : MapValue) : Type 0 where
+  pub at_kernels : AtKernels input all r1 r2 maps back r4 kernels after labels version number tasks
   pub good : IsFaultless (asm.Breaks kernels) kernels
   pub header : IsHeaded (codes "[image]") after r6
   pub own : lines ≡ up_to_header r6
@@ -71,15 +72,17 @@ pub at_map : (input : List TextLine) {all r1 r2 lines back : List TextLine} {lab
 at_map input n b h o w s = record { begun = b; header = h; names = n; own = o; whole = w; shut = s }
 
 -- After a map without a fault and the header of the kernels, the lines stand in their section.
-pub at_kernels : {input all r1 r2 maps back r4 lines after : List TextLine} {labels : List (List ℕ)} {version number : ℕ} → AtMap input all r1 r2 maps back labels version → IsMapText version labels maps number
-    → IsHeaded (codes "[kernels]") back r4 → lines ≡ up_to_header r4 → r4 ≡ lines ++ after → IsClosed after → AtKernels input all r1 r2 maps back r4 lines after labels version number
-at_kernels a g h o w s = record { at_map = a; good = g; header = h; own = o; whole = w; shut = s }
+pub at_kernels : {input all r1 r2 maps back r4 lines after : List TextLine} {labels : List (List ℕ)} {version number : ℕ} {tasks : MapValue} → AtMap input all r1 r2 maps back labels version
+    → IsMapText version labels maps number × (tasks ≡ map_of maps)
+    → IsHeaded (codes "[kernels]") back r4 → lines ≡ up_to_header r4 → r4 ≡ lines ++ after → IsClosed after → AtKernels input all r1 r2 maps back r4 lines after labels version number tasks
+at_kernels a g h o w s = record { at_map = a; good = g.0; value = g.1; header = h; own = o; whole = w; shut = s }
 
 -- After kernels without a fault and the header of the image, the lines stand in its section.
-pub at_image : {input all r1 r2 maps back r4 kernels after r6 lines last : List TextLine} {labels : List (List ℕ)} {version number : ℕ} → AtKernels input all r1 r2 maps back r4 kernels after labels version number
-    → IsFaultless (asm.Breaks kernels) kernels → IsHeaded (codes "[image]") after r6 → lines ≡ up_to_header r6 → r6 ≡ lines ++ last → IsClosed last
-    → AtImage input all r1 r2 maps back r4 kernels after r6 lines last labels version number
-at_image a g h o w s = record { at_kernels = a; good = g; header = h; own = o; whole = w; shut = s }
+pub at_image : {input all r1 r2 maps back r4 kernels after r6 lines last : List TextLine} {labels : List (List ℕ)} {version number : ℕ} {tasks : MapValue} {More : Type 0}
+    → AtKernels input all r1 r2 maps back r4 kernels after labels version number tasks → IsFaultless (asm.Breaks kernels) kernels × More
+    → IsHeaded (codes "[image]") after r6 → lines ≡ up_to_header r6 → r6 ≡ lines ++ last → IsClosed last
+    → AtImage input all r1 r2 maps back r4 kernels after r6 lines last labels version number tasks
+at_image a g h o w s = record { at_kernels = a; good = g.0; header = h; own = o; whole = w; shut = s }
 
 -- ---- the map's section
 
@@ -110,7 +113,8 @@ module _ {input all r1 r2 maps back : List TextLine} {labels : List (List ℕ)} 
 
 -- ---- the kernels' section
 
-module _ {input all r1 r2 maps back r4 lines after : List TextLine} {labels : List (List ℕ)} {version number : ℕ} (a : AtKernels input all r1 r2 maps back r4 lines after labels version number) where
+module _ {input all r1 r2 maps back r4 lines after : List TextLine} {labels : List (List ℕ)} {version number : ℕ} {tasks : MapValue}
+    (a : AtKernels input all r1 r2 maps back r4 lines after labels version number tasks) where
   kernels_none : NoneCloses lines
   kernels_none = subst NoneCloses (sym a.own) (none_before (λ l. closes l.1) r4)
 
@@ -138,8 +142,8 @@ module _ {input all r1 r2 maps back r4 lines after : List TextLine} {labels : Li
 
 -- ---- the image's section, and what follows it
 
-module _ {input all r1 r2 maps back r4 kernels after r6 lines last : List TextLine} {labels : List (List ℕ)} {version number : ℕ}
-    (a : AtImage input all r1 r2 maps back r4 kernels after r6 lines last labels version number) where
+module _ {input all r1 r2 maps back r4 kernels after r6 lines last : List TextLine} {labels : List (List ℕ)} {version number : ℕ} {tasks : MapValue}
+    (a : AtImage input all r1 r2 maps back r4 kernels after r6 lines last labels version number tasks) where
   image_none : NoneCloses lines
   image_none = subst NoneCloses (sym a.own) (none_before (λ l. closes l.1) r6)
 
@@ -153,35 +157,35 @@ module _ {input all r1 r2 maps back r4 kernels after r6 lines last : List TextLi
       let k = a.at_kernels in
       stage_next (kernels_stage k) (kernel_part input k.at_map.begun k.at_map.header) kernels after r6 (kernels_none k) k.whole (kernels_good k a.good) tt a.header
 
-  words_own : (w : ℕ) → w ≡ (map_of maps).words → w ≡ (map_of (map_lines all)).words
-  words_own w e = e ∙ ap (λ l. (map_of l).words) (sym (map_own a.at_kernels.at_map))
+  words_own : (w : ℕ) → w ≡ tasks.words → w ≡ (map_of (map_lines all)).words
+  words_own w e = e ∙ ap (λ (x : MapValue). x.words) (a.at_kernels.value ∙ ap map_of (sym (map_own a.at_kernels.at_map)))
 
-  image_good : (w : ℕ) → w ≡ (map_of maps).words → IsFaultless (image.Breaks w) lines → IsFaultless (image.Breaks (map_of (map_lines all)).words) lines
+  image_good : (w : ℕ) → w ≡ tasks.words → IsFaultless (image.Breaks w) lines → IsFaultless (image.Breaks (map_of (map_lines all)).words) lines
   image_good w h f = subst (λ x. IsFaultless (image.Breaks x) lines) (words_own w h) f
 
   -- The image's first fault is that of the bundle.
-  pub image_faults : (end w : ℕ) → w ≡ (map_of maps).words → (e : LineError ImageKind) → Tells image.rank (image.Breaks w) lines e → Faults input all end (renamed image_fault e)
+  pub image_faults : (end w : ℕ) → w ≡ tasks.words → (e : LineError ImageKind) → Tells image.rank (image.Breaks w) lines e → Faults input all end (renamed image_fault e)
   image_faults end w h e f =
       section_tells image_stage (image_part input a.at_kernels.at_map.begun a.at_kernels.at_map.header) lines last end image_none a.whole e
       (subst (λ x. Tells image.rank (image.Breaks x) lines e) (words_own w h) f)
 
   -- What stands in the place of the header of the end is the first fault.
-  pub end_missing : (end w : ℕ) → w ≡ (map_of maps).words → IsFaultless (image.Breaks w) lines → (e : LineError Fault) → IsMissing (codes "[end]") last end e → Faults input all end e
+  pub end_missing : (end w : ℕ) → w ≡ tasks.words → IsFaultless (image.Breaks w) lines → (e : LineError Fault) → IsMissing (codes "[end]") last end e → Faults input all end e
   end_missing end w h good e m =
       section_missing image_stage (image_part input a.at_kernels.at_map.begun a.at_kernels.at_map.header) lines last end image_none a.whole (image_good w h good) a.shut e m
 
-  end_stage : (w : ℕ) {rest : List TextLine} → w ≡ (map_of maps).words → IsFaultless (image.Breaks w) lines → IsHeaded (codes "[end]") last rest
+  end_stage : (w : ℕ) {rest : List TextLine} → w ≡ tasks.words → IsFaultless (image.Breaks w) lines → IsHeaded (codes "[end]") last rest
       → Stage (bundle_rule input a.at_kernels.at_map.begun a.at_kernels.at_map.header) all 3 rest
   end_stage w {rest} h good b =
       stage_next image_stage (image_part input a.at_kernels.at_map.begun a.at_kernels.at_map.header) lines last rest image_none a.whole (image_good w h good) tt b
 
   -- A line with a text after the end is the first fault.
-  pub left_faults : (end w : ℕ) {rest : List TextLine} → w ≡ (map_of maps).words → IsFaultless (image.Breaks w) lines → IsHeaded (codes "[end]") last rest
+  pub left_faults : (end w : ℕ) {rest : List TextLine} → w ≡ tasks.words → IsFaultless (image.Breaks w) lines → IsHeaded (codes "[end]") last rest
       → (e : LineError Fault) → IsLeftOver rest e → Faults input all end e
   left_faults end w h good b e l = past_first (end_stage w h good b) (past_sections input all version) end e l
 
   -- The lines are a bundle.
-  pub is_bundle : (end w : ℕ) {rest : List TextLine} → w ≡ (map_of maps).words → IsFaultless (image.Breaks w) lines → IsHeaded (codes "[end]") last rest → AllBlank rest → IsBundle input all end
+  pub is_bundle : (end w : ℕ) {rest : List TextLine} → w ≡ tasks.words → IsFaultless (image.Breaks w) lines → IsHeaded (codes "[end]") last rest → AllBlank rest → IsBundle input all end
   is_bundle end w h good b l = past_none (end_stage w h good b) (past_sections input all version) end l
 
   -- The program and the image are those that the lines spell.

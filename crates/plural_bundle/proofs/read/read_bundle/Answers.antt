@@ -1,7 +1,6 @@
 use Rattle.std.proofs.Common.{ℕ, ap, sym, subst, ◌∙◌, length, ◌%◌, arith}
 use Rattle.plural_bytes.specs.Spelled.{text_lines}
 use Rattle.plural_sections.proofs.PassedErrors.{answered, value_passed, error_passed}
-use Rattle.plural_map.specs.Value.{MapValue}
 use Rattle.plural_map_text.specs.Kinds.{map_fault}
 use Rattle.plural_asm.specs.Kinds.{kernel_fault}
 use Rattle.plural_asm.specs.Labels.{names_of}
@@ -29,8 +28,7 @@ returns-in_err-after_header-clause-answer c =
 -- The map has a fault: its first is that of the bundle.
 pub returns-in_err-tasks-clause-answer : goal.returns-in_err-tasks-clause-answer
 returns-in_err-tasks-clause-answer c =
-    let names = c.deref.ensures.value ∙ c.in_ok-labels.ensures ∙ ap names_of c.section_of.ensures.section in
-    let m = at_map (text_lines c.args.input.now) names c.in_ok-begun.ensures.answer c.in_ok-after_header.ensures.answer c.next_section-map.ensures.lines c.next_section-map.ensures.whole c.next_section-map.ensures.closed in
+    let m = at_map (text_lines c.args.input.now) (c.deref.ensures.value ∙ c.in_ok-labels.ensures ∙ ap names_of c.section_of.ensures.section) c.in_ok-begun.ensures.answer c.in_ok-after_header.ensures.answer c.next_section-map.ensures.lines c.next_section-map.ensures.whole c.next_section-map.ensures.closed in
     answered c.from_residual-in_err-tasks.result _ _ c.in_err-tasks.field-0.0 c.from_residual-in_err-tasks.ensures.1
     (error_passed map_fault c.parse.result c.in_err-tasks.field-0.0 _ _ (Faults (text_lines c.args.input.now) (text_lines c.args.lines.now) c.args.end) c.parse.ensures c.in_err-tasks.ensures
     (λ e f. map_faults m c.args.end c.first_number-closing.result e c.first_number-closing.ensures f))
@@ -38,8 +36,7 @@ returns-in_err-tasks-clause-answer c =
 -- Another line stands in the place of the header of the kernels.
 pub returns-in_err-after_header-2-clause-answer : goal.returns-in_err-after_header-2-clause-answer
 returns-in_err-after_header-2-clause-answer c =
-    let names = c.deref.ensures.value ∙ c.in_ok-labels.ensures ∙ ap names_of c.section_of.ensures.section in
-    let m = at_map (text_lines c.args.input.now) names c.in_ok-begun.ensures.answer c.in_ok-after_header.ensures.answer c.next_section-map.ensures.lines c.next_section-map.ensures.whole c.next_section-map.ensures.closed in
+    let m = at_map (text_lines c.args.input.now) (c.deref.ensures.value ∙ c.in_ok-labels.ensures ∙ ap names_of c.section_of.ensures.section) c.in_ok-begun.ensures.answer c.in_ok-after_header.ensures.answer c.next_section-map.ensures.lines c.next_section-map.ensures.whole c.next_section-map.ensures.closed in
     let tasks = value_passed _ _ _ _ c.parse.ensures c.in_ok-tasks.ensures in
     answered c.from_residual-in_err-after_header-2.result _ _ c.in_err-after_header-2.field-0.0 c.from_residual-in_err-after_header-2.ensures.1
     (kernels_missing m c.args.end c.first_number-closing.result tasks.0 c.in_err-after_header-2.field-0.0 c.in_err-after_header-2.ensures.answer)
@@ -47,10 +44,8 @@ returns-in_err-after_header-2-clause-answer c =
 -- The kernel lines have a fault: their first is that of the bundle.
 pub returns-in_err-object-clause-answer : goal.returns-in_err-object-clause-answer
 returns-in_err-object-clause-answer c =
-    let names = c.deref.ensures.value ∙ c.in_ok-labels.ensures ∙ ap names_of c.section_of.ensures.section in
-    let m = at_map (text_lines c.args.input.now) names c.in_ok-begun.ensures.answer c.in_ok-after_header.ensures.answer c.next_section-map.ensures.lines c.next_section-map.ensures.whole c.next_section-map.ensures.closed in
-    let tasks = value_passed _ _ _ _ c.parse.ensures c.in_ok-tasks.ensures in
-    let k = at_kernels m tasks.0 c.in_ok-after_header-2.ensures.answer c.next_section-kernels.ensures.lines c.next_section-kernels.ensures.whole c.next_section-kernels.ensures.closed in
+    let m = at_map (text_lines c.args.input.now) (c.deref.ensures.value ∙ c.in_ok-labels.ensures ∙ ap names_of c.section_of.ensures.section) c.in_ok-begun.ensures.answer c.in_ok-after_header.ensures.answer c.next_section-map.ensures.lines c.next_section-map.ensures.whole c.next_section-map.ensures.closed in
+    let k = at_kernels m (value_passed _ _ _ _ c.parse.ensures c.in_ok-tasks.ensures) c.in_ok-after_header-2.ensures.answer c.next_section-kernels.ensures.lines c.next_section-kernels.ensures.whole c.next_section-kernels.ensures.closed in
     answered c.from_residual-in_err-object.result _ _ c.in_err-object.field-0.0 c.from_residual-in_err-object.ensures.1
     (error_passed kernel_fault c.assemble.result c.in_err-object.field-0.0 _ _ (Faults (text_lines c.args.input.now) (text_lines c.args.lines.now) c.args.end) c.assemble.ensures c.in_err-object.ensures
     (λ e f. kernels_faults k c.args.end e f))
@@ -58,10 +53,8 @@ returns-in_err-object-clause-answer c =
 -- Another line stands in the place of the header of the image.
 pub returns-in_err-after_header-3-clause-answer : goal.returns-in_err-after_header-3-clause-answer
 returns-in_err-after_header-3-clause-answer c =
-    let names = c.deref.ensures.value ∙ c.in_ok-labels.ensures ∙ ap names_of c.section_of.ensures.section in
-    let m = at_map (text_lines c.args.input.now) names c.in_ok-begun.ensures.answer c.in_ok-after_header.ensures.answer c.next_section-map.ensures.lines c.next_section-map.ensures.whole c.next_section-map.ensures.closed in
-    let tasks = value_passed _ _ _ _ c.parse.ensures c.in_ok-tasks.ensures in
-    let k = at_kernels m tasks.0 c.in_ok-after_header-2.ensures.answer c.next_section-kernels.ensures.lines c.next_section-kernels.ensures.whole c.next_section-kernels.ensures.closed in
+    let m = at_map (text_lines c.args.input.now) (c.deref.ensures.value ∙ c.in_ok-labels.ensures ∙ ap names_of c.section_of.ensures.section) c.in_ok-begun.ensures.answer c.in_ok-after_header.ensures.answer c.next_section-map.ensures.lines c.next_section-map.ensures.whole c.next_section-map.ensures.closed in
+    let k = at_kernels m (value_passed _ _ _ _ c.parse.ensures c.in_ok-tasks.ensures) c.in_ok-after_header-2.ensures.answer c.next_section-kernels.ensures.lines c.next_section-kernels.ensures.whole c.next_section-kernels.ensures.closed in
     let object = value_passed _ _ _ _ c.assemble.ensures c.in_ok-object.ensures in
     answered c.from_residual-in_err-after_header-3.result _ _ c.in_err-after_header-3.field-0.0 c.from_residual-in_err-after_header-3.ensures.1
     (image_missing k c.args.end object.0 c.in_err-after_header-3.field-0.0 c.in_err-after_header-3.ensures.answer)
@@ -69,44 +62,32 @@ returns-in_err-after_header-3-clause-answer c =
 -- The image has a fault: its first is that of the bundle.
 pub returns-in_err-words-clause-answer : goal.returns-in_err-words-clause-answer
 returns-in_err-words-clause-answer c =
-    let names = c.deref.ensures.value ∙ c.in_ok-labels.ensures ∙ ap names_of c.section_of.ensures.section in
-    let m = at_map (text_lines c.args.input.now) names c.in_ok-begun.ensures.answer c.in_ok-after_header.ensures.answer c.next_section-map.ensures.lines c.next_section-map.ensures.whole c.next_section-map.ensures.closed in
-    let tasks = value_passed _ _ _ _ c.parse.ensures c.in_ok-tasks.ensures in
-    let k = at_kernels m tasks.0 c.in_ok-after_header-2.ensures.answer c.next_section-kernels.ensures.lines c.next_section-kernels.ensures.whole c.next_section-kernels.ensures.closed in
-    let object = value_passed _ _ _ _ c.assemble.ensures c.in_ok-object.ensures in
-    let i = at_image k object.0 c.in_ok-after_header-3.ensures.answer c.next_section-image.ensures.lines c.next_section-image.ensures.whole c.next_section-image.ensures.closed in
-    let w = c.words.ensures.value ∙ ap (λ (x : MapValue). x.words) tasks.1 in
+    let m = at_map (text_lines c.args.input.now) (c.deref.ensures.value ∙ c.in_ok-labels.ensures ∙ ap names_of c.section_of.ensures.section) c.in_ok-begun.ensures.answer c.in_ok-after_header.ensures.answer c.next_section-map.ensures.lines c.next_section-map.ensures.whole c.next_section-map.ensures.closed in
+    let k = at_kernels m (value_passed _ _ _ _ c.parse.ensures c.in_ok-tasks.ensures) c.in_ok-after_header-2.ensures.answer c.next_section-kernels.ensures.lines c.next_section-kernels.ensures.whole c.next_section-kernels.ensures.closed in
+    let i = at_image k (value_passed _ _ _ _ c.assemble.ensures c.in_ok-object.ensures) c.in_ok-after_header-3.ensures.answer c.next_section-image.ensures.lines c.next_section-image.ensures.whole c.next_section-image.ensures.closed in
     answered c.from_residual-in_err-words.result _ _ c.in_err-words.field-0.0 c.from_residual-in_err-words.ensures.1
     (error_passed image_fault c.read_image.result c.in_err-words.field-0.0 _ _ (Faults (text_lines c.args.input.now) (text_lines c.args.lines.now) c.args.end) c.read_image.ensures c.in_err-words.ensures
-    (λ e f. image_faults i c.args.end c.words.result w e f))
+    (λ e f. image_faults i c.args.end c.words.result c.words.ensures.value e f))
 
 -- Another line stands in the place of the header of the end.
 pub returns-in_err-after_header-4-clause-answer : goal.returns-in_err-after_header-4-clause-answer
 returns-in_err-after_header-4-clause-answer c =
-    let names = c.deref.ensures.value ∙ c.in_ok-labels.ensures ∙ ap names_of c.section_of.ensures.section in
-    let m = at_map (text_lines c.args.input.now) names c.in_ok-begun.ensures.answer c.in_ok-after_header.ensures.answer c.next_section-map.ensures.lines c.next_section-map.ensures.whole c.next_section-map.ensures.closed in
-    let tasks = value_passed _ _ _ _ c.parse.ensures c.in_ok-tasks.ensures in
-    let k = at_kernels m tasks.0 c.in_ok-after_header-2.ensures.answer c.next_section-kernels.ensures.lines c.next_section-kernels.ensures.whole c.next_section-kernels.ensures.closed in
-    let object = value_passed _ _ _ _ c.assemble.ensures c.in_ok-object.ensures in
-    let i = at_image k object.0 c.in_ok-after_header-3.ensures.answer c.next_section-image.ensures.lines c.next_section-image.ensures.whole c.next_section-image.ensures.closed in
-    let w = c.words.ensures.value ∙ ap (λ (x : MapValue). x.words) tasks.1 in
+    let m = at_map (text_lines c.args.input.now) (c.deref.ensures.value ∙ c.in_ok-labels.ensures ∙ ap names_of c.section_of.ensures.section) c.in_ok-begun.ensures.answer c.in_ok-after_header.ensures.answer c.next_section-map.ensures.lines c.next_section-map.ensures.whole c.next_section-map.ensures.closed in
+    let k = at_kernels m (value_passed _ _ _ _ c.parse.ensures c.in_ok-tasks.ensures) c.in_ok-after_header-2.ensures.answer c.next_section-kernels.ensures.lines c.next_section-kernels.ensures.whole c.next_section-kernels.ensures.closed in
+    let i = at_image k (value_passed _ _ _ _ c.assemble.ensures c.in_ok-object.ensures) c.in_ok-after_header-3.ensures.answer c.next_section-image.ensures.lines c.next_section-image.ensures.whole c.next_section-image.ensures.closed in
     let words = value_passed _ _ _ _ c.read_image.ensures c.in_ok-words.ensures in
     answered c.from_residual-in_err-after_header-4.result _ _ c.in_err-after_header-4.field-0.0 c.from_residual-in_err-after_header-4.ensures.1
-    (end_missing i c.args.end c.words.result w words.0 c.in_err-after_header-4.field-0.0 c.in_err-after_header-4.ensures.answer)
+    (end_missing i c.args.end c.words.result c.words.ensures.value words.0 c.in_err-after_header-4.field-0.0 c.in_err-after_header-4.ensures.answer)
 
 -- A line with a text stands after the end.
 pub returns-in_err-nothing_after-clause-answer : goal.returns-in_err-nothing_after-clause-answer
 returns-in_err-nothing_after-clause-answer c =
-    let names = c.deref.ensures.value ∙ c.in_ok-labels.ensures ∙ ap names_of c.section_of.ensures.section in
-    let m = at_map (text_lines c.args.input.now) names c.in_ok-begun.ensures.answer c.in_ok-after_header.ensures.answer c.next_section-map.ensures.lines c.next_section-map.ensures.whole c.next_section-map.ensures.closed in
-    let tasks = value_passed _ _ _ _ c.parse.ensures c.in_ok-tasks.ensures in
-    let k = at_kernels m tasks.0 c.in_ok-after_header-2.ensures.answer c.next_section-kernels.ensures.lines c.next_section-kernels.ensures.whole c.next_section-kernels.ensures.closed in
-    let object = value_passed _ _ _ _ c.assemble.ensures c.in_ok-object.ensures in
-    let i = at_image k object.0 c.in_ok-after_header-3.ensures.answer c.next_section-image.ensures.lines c.next_section-image.ensures.whole c.next_section-image.ensures.closed in
-    let w = c.words.ensures.value ∙ ap (λ (x : MapValue). x.words) tasks.1 in
+    let m = at_map (text_lines c.args.input.now) (c.deref.ensures.value ∙ c.in_ok-labels.ensures ∙ ap names_of c.section_of.ensures.section) c.in_ok-begun.ensures.answer c.in_ok-after_header.ensures.answer c.next_section-map.ensures.lines c.next_section-map.ensures.whole c.next_section-map.ensures.closed in
+    let k = at_kernels m (value_passed _ _ _ _ c.parse.ensures c.in_ok-tasks.ensures) c.in_ok-after_header-2.ensures.answer c.next_section-kernels.ensures.lines c.next_section-kernels.ensures.whole c.next_section-kernels.ensures.closed in
+    let i = at_image k (value_passed _ _ _ _ c.assemble.ensures c.in_ok-object.ensures) c.in_ok-after_header-3.ensures.answer c.next_section-image.ensures.lines c.next_section-image.ensures.whole c.next_section-image.ensures.closed in
     let words = value_passed _ _ _ _ c.read_image.ensures c.in_ok-words.ensures in
     answered c.from_residual-in_err-nothing_after.result _ _ c.in_err-nothing_after.field-0.0 c.from_residual-in_err-nothing_after.ensures.1
-    (left_faults i c.args.end c.words.result w words.0 c.in_ok-after_header-4.ensures.answer c.in_err-nothing_after.field-0.0 c.in_err-nothing_after.ensures)
+    (left_faults i c.args.end c.words.result c.words.ensures.value words.0 c.in_ok-after_header-4.ensures.answer c.in_err-nothing_after.field-0.0 c.in_err-nothing_after.ensures)
 
 -- The labels of the kernel lines have pcs that are multiples of 4.
 pub program-requires : goal.program-requires
@@ -115,15 +96,13 @@ program-requires c = subst AreAligned (sym (value_passed _ _ _ _ c.assemble.ensu
 -- All lines were read: they are a bundle, and spell its program and its image.
 pub returns-clause-answer : goal.returns-clause-answer
 returns-clause-answer c =
-    let names = c.deref.ensures.value ∙ c.in_ok-labels.ensures ∙ ap names_of c.section_of.ensures.section in
-    let m = at_map (text_lines c.args.input.now) names c.in_ok-begun.ensures.answer c.in_ok-after_header.ensures.answer c.next_section-map.ensures.lines c.next_section-map.ensures.whole c.next_section-map.ensures.closed in
+    let m = at_map (text_lines c.args.input.now) (c.deref.ensures.value ∙ c.in_ok-labels.ensures ∙ ap names_of c.section_of.ensures.section) c.in_ok-begun.ensures.answer c.in_ok-after_header.ensures.answer c.next_section-map.ensures.lines c.next_section-map.ensures.whole c.next_section-map.ensures.closed in
     let tasks = value_passed _ _ _ _ c.parse.ensures c.in_ok-tasks.ensures in
-    let k = at_kernels m tasks.0 c.in_ok-after_header-2.ensures.answer c.next_section-kernels.ensures.lines c.next_section-kernels.ensures.whole c.next_section-kernels.ensures.closed in
+    let k = at_kernels m (value_passed _ _ _ _ c.parse.ensures c.in_ok-tasks.ensures) c.in_ok-after_header-2.ensures.answer c.next_section-kernels.ensures.lines c.next_section-kernels.ensures.whole c.next_section-kernels.ensures.closed in
     let object = value_passed _ _ _ _ c.assemble.ensures c.in_ok-object.ensures in
-    let i = at_image k object.0 c.in_ok-after_header-3.ensures.answer c.next_section-image.ensures.lines c.next_section-image.ensures.whole c.next_section-image.ensures.closed in
-    let w = c.words.ensures.value ∙ ap (λ (x : MapValue). x.words) tasks.1 in
+    let i = at_image k (value_passed _ _ _ _ c.assemble.ensures c.in_ok-object.ensures) c.in_ok-after_header-3.ensures.answer c.next_section-image.ensures.lines c.next_section-image.ensures.whole c.next_section-image.ensures.closed in
     let words = value_passed _ _ _ _ c.read_image.ensures c.in_ok-words.ensures in (
-      is_bundle i c.args.end c.words.result w words.0 c.in_ok-after_header-4.ensures.answer c.in_ok-nothing_after.ensures,
+      is_bundle i c.args.end c.words.result c.words.ensures.value words.0 c.in_ok-after_header-4.ensures.answer c.in_ok-nothing_after.ensures,
       value_is i c.words.result _ _ _ _ _ c.words.ensures.value tasks.1 object.1 object.2 c.in_ok-program.ensures.value words.1,
     )
 
