@@ -6,4 +6,5 @@ pub mod InstanceSteps
 pub mod RootSteps
 pub mod Opens
 pub mod Closes
+pub mod Owed
 pub mod SettlingSteps

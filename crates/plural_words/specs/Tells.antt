@@ -2,23 +2,24 @@
 --
 -- A step tells of itself (its word, and what it was to write), of the token before, of the number that it found, and of
 -- the token after. It can't name the words' opening, which the token's view has.
-use Rattle.std.specs.Prelude.{ℕ, ◌≡◌, ◌≢◌, ◌+◌, ◌^◌, ◌<◌, ◌≤◌, ◌==◌, true, cond, [], ◌∷◌, ◌++◌, drop, slice_index}
+use Rattle.std.specs.Prelude.{ℕ, ◌≡◌, ◌≢◌, ◌+◌, ◌^◌, ◌<◌, ◌≤◌, ◌==◌, true, cond, false, [], ◌∷◌, ◌++◌, slice_index}
 use Rattle.atomic_table.specs.Table.{State, Me, Step}
+use Rattle.plural_map.specs.declared.outcome.Outcome.{Outcome}
 use Rattle.plural_order.specs.TaskGraph.{decision_by}
 use Rattle.plural_counters.specs.Counters.{IsSound}
 use Rattle.plural_counters.specs.Steps.{tell_first, tell_next, on_decision}
 use Rattle.plural_counters.specs.Laws.{outcome_of_flags, decision_of_state}
-use Rattle.plural_counters.specs.declared.duty.Duty.TheVariants.{Count, Close, Tell, Decide}
+use Rattle.plural_counters.specs.declared.duty.Duty.TheVariants.{Flag, Count, Close, Tell, Decide}
 use Rattle.plural_rule.specs.Opening.{Opening, graph_in, outcome_of, task_count, quota_of}
 use Rattle.plural_rule.specs.Layout.{alloc_at}
-use Rattle.plural_rule.specs.Steps.{looked, lost, took, began, did_read, stored, ended, did_note, finished, armed}
+use Rattle.plural_rule.specs.Steps.{looked, lost, took, began, did_read, stored, ended, did_note, finished}
 use Rattle.plural_rule.specs.Kept.{Kept, duties}
 use Rattle.plural_rule.specs.Last.{KnowsWhole, HasTold}
 use Rattle.plural_rule.specs.declared.view.View.{View}
 use Rattle.plural_rule.specs.declared.view.Role.TheVariants.{Root}
 use Rattle.plural_words.specs.Places.{record_at}
 use Rattle.plural_words.specs.Stages.{memory_of, may_read}
-use Rattle.plural_words.specs.Settling.{first_task, first_number, first_outcome, first_place, settled}
+use Rattle.plural_words.specs.Settling.{settled, armed_now}
 
 -- The rule holds of the words and of all views. No slot is used.
 abbrev pub Holds : Opening → State (Unit {0}) View → Type 0
@@ -86,55 +87,48 @@ abbrev pub TellsAll : Tells
 TellsAll step m found n = (n ≡ m)
     × (m.0.role ≡ Root [] → KnowsWhole m.0.opening m.0 → HasTold m.0.opening m.0)
 
--- ---- settling: each step does the first duty that the view owes, and its duties are sound then
+-- ---- settling: each step does a duty that the view owes, and its duties are sound then
 
 -- The duties of the token after are sound.
 abbrev pub IsSoundNow : Token → Token → Type 0
 IsSoundNow m n = IsSound (graph_in m.0.opening) (duties n.0)
 
--- The bits of an end join the flags of its task.
-abbrev pub TellsMark : Tells
-TellsMark step m found n =
-    IsNow m (settled m.0 (Count (first_task m.0.owes) (first_number m.0.owes) ∷ [])) n × IsSoundNow m n
+-- The bits of the end of instance k of task t join the flags of the task.
+abbrev pub TellsMark : (t k : ℕ) → Tells
+TellsMark t k step m found n = IsNow m (settled m.0 (Flag t k) (Count t k ∷ [])) n × IsSoundNow m n
 
--- An instance is counted off its task.
-abbrev pub TellsCount : Tells
-TellsCount step m found n =
-    IsNow m (settled m.0 (cond (found == 1) (Close (first_task m.0.owes) ∷ []) [])) n × IsSoundNow m n
+-- Instance k of task t is counted off it.
+abbrev pub TellsCount : (t k : ℕ) → Tells
+TellsCount t k step m found n =
+    IsNow m (settled m.0 (Count t k) (cond (found == 1) (Close t ∷ []) [])) n × IsSoundNow m n
 
--- A load of the flags of a task whose instances are all counted.
-abbrev pub TellsFlags : Tells
-TellsFlags step m found n =
-    IsNow m (settled m.0 (tell_first ((graph_in m.0.opening).successors (first_task m.0.owes)) (first_task m.0.owes)
-    (outcome_of m.0.opening (first_task m.0.owes)))) n
-    × IsSoundNow m n × (outcome_of_flags found ≡ outcome_of m.0.opening (first_task m.0.owes))
+-- A load of the flags of task t, whose instances are all counted.
+abbrev pub TellsFlags : (t : ℕ) → Tells
+TellsFlags t step m found n =
+    IsNow m (settled m.0 (Close t) (tell_first ((graph_in m.0.opening).successors t) t (outcome_of m.0.opening t))) n
+    × IsSoundNow m n × (outcome_of_flags found ≡ outcome_of m.0.opening t)
 
--- The bits of a dependency join the state of the successor that is told next.
-abbrev pub TellsMarkEdge : Tells
-TellsMarkEdge step m found n =
-    IsNow m (settled m.0 (Tell (first_task m.0.owes) (first_outcome m.0.owes) (first_place m.0.owes) true ∷ [])) n
-    × IsSoundNow m n
+-- The bits of a dependency join the state of the successor at place e, which task t is told to next.
+abbrev pub TellsMarkEdge : (t : ℕ) → (o : Outcome) → (e : ℕ) → Tells
+TellsMarkEdge t o e step m found n =
+    IsNow m (settled m.0 (Tell t o e false) (Tell t o e true ∷ [])) n × IsSoundNow m n
 
 -- The dependency is counted off that successor.
-abbrev pub TellsCountEdge : Tells
-TellsCountEdge step m found n =
-    IsNow m (settled m.0 (cond (found == 1)
-    (Decide (slice_index ((graph_in m.0.opening).successors (first_task m.0.owes)) (first_place m.0.owes)) ∷ []) []
-    ++ tell_next ((graph_in m.0.opening).successors (first_task m.0.owes)) (first_task m.0.owes)
-    (first_outcome m.0.owes) (first_place m.0.owes))) n
+abbrev pub TellsCountEdge : (t : ℕ) → (o : Outcome) → (e : ℕ) → Tells
+TellsCountEdge t o e step m found n =
+    IsNow m (settled m.0 (Tell t o e true) (cond (found == 1)
+    (Decide (slice_index ((graph_in m.0.opening).successors t) e) ∷ []) []
+    ++ tell_next ((graph_in m.0.opening).successors t) t o e)) n
     × IsSoundNow m n
 
--- A load of the state of a task whose dependencies are all counted.
-abbrev pub TellsState : Tells
-TellsState step m found n =
-    IsNow m (settled m.0 (on_decision (graph_in m.0.opening) (first_task m.0.owes)
-    (decision_by (graph_in m.0.opening) (first_task m.0.owes)))) n
+-- A load of the state of task t, whose dependencies are all counted.
+abbrev pub TellsState : (t : ℕ) → Tells
+TellsState t step m found n =
+    IsNow m (settled m.0 (Decide t) (on_decision (graph_in m.0.opening) t (decision_by (graph_in m.0.opening) t))) n
     × IsSoundNow m n
-    × (decision_of_state (graph_in m.0.opening) (first_task m.0.owes) found
-    ≡ decision_by (graph_in m.0.opening) (first_task m.0.owes))
+    × (decision_of_state (graph_in m.0.opening) t found ≡ decision_by (graph_in m.0.opening) t)
 
--- A task is armed.
-abbrev pub TellsArm : Tells
-TellsArm step m found n =
-    IsNow m (armed m.0 (first_task m.0.owes) (drop 1 m.0.owes)) n
-    × IsSoundNow m n × (slice_index m.0.found (first_task m.0.owes) ≡ 0)
+-- Task t is armed.
+abbrev pub TellsArm : (t : ℕ) → Tells
+TellsArm t step m found n =
+    IsNow m (armed_now m.0 t) n × IsSoundNow m n × (slice_index m.0.found t ≡ 0)

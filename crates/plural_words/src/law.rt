@@ -1,5 +1,7 @@
 //! The rule of the table, and what each kind of step tells.
 ghost use Rattle.std.specs.Prelude.{ℕ};
+ghost use Rattle.plural_map.specs.declared.outcome.Outcome.{Outcome};
+ghost use Rattle.plural_map.specs.declared.outcome.Outcome.TheVariants.{Failed};
 ghost use Rattle.plural_rule.specs.Steps.{first_view, root_after, new_seat, joined, spent};
 ghost use Rattle.plural_words.specs.Tells.{Holds, TellsLook, TellsExchange, TellsBegin, TellsRead, TellsStore, TellsEnd, TellsNote, TellsFinish, TellsAll};
 ghost use Rattle.plural_words.specs.Tells.{TellsMark, TellsCount, TellsFlags, TellsMarkEdge, TellsCountEdge, TellsState, TellsArm};
@@ -111,51 +113,83 @@ impl Join<View> for Joining {
     ghost spent = { spent no_opening };
 }
 
-/// The bits of an end join the flags of its task.
-pub struct MarkEnd;
+/// Names the duty that a step does, at the call that takes it: its task; its instance, or the place of the successor
+/// that is told; and the outcome that is told.
+pub trait Owed {
+    ghost task: { ℕ };
 
-impl Play<(), View> for MarkEnd {
-    ghost then = { TellsMark };
+    ghost number: { ℕ };
+
+    ghost outcome: { Outcome };
+}
+
+impl Owed for Brand {
+    ghost task = { 0 };
+
+    ghost number = { 0 };
+
+    ghost outcome = { Failed };
+}
+
+/// The bits of an end join the flags of its task.
+pub struct MarkEnd<N> {
+    naming: PhantomData<N>,
+}
+
+impl<N: Owed> Play<(), View> for MarkEnd<N> {
+    ghost then = { TellsMark N.task N.number };
 }
 
 /// An instance is counted off its task.
-pub struct CountInstance;
+pub struct CountInstance<N> {
+    naming: PhantomData<N>,
+}
 
-impl Play<(), View> for CountInstance {
-    ghost then = { TellsCount };
+impl<N: Owed> Play<(), View> for CountInstance<N> {
+    ghost then = { TellsCount N.task N.number };
 }
 
 /// A load of the flags of a task that is to be closed.
-pub struct LoadFlags;
+pub struct LoadFlags<N> {
+    naming: PhantomData<N>,
+}
 
-impl Play<(), View> for LoadFlags {
-    ghost then = { TellsFlags };
+impl<N: Owed> Play<(), View> for LoadFlags<N> {
+    ghost then = { TellsFlags N.task };
 }
 
 /// The bits of a dependency join the state of a task.
-pub struct MarkEdge;
+pub struct MarkEdge<N> {
+    naming: PhantomData<N>,
+}
 
-impl Play<(), View> for MarkEdge {
-    ghost then = { TellsMarkEdge };
+impl<N: Owed> Play<(), View> for MarkEdge<N> {
+    ghost then = { TellsMarkEdge N.task N.outcome N.number };
 }
 
 /// A dependency is counted off a task.
-pub struct CountEdge;
+pub struct CountEdge<N> {
+    naming: PhantomData<N>,
+}
 
-impl Play<(), View> for CountEdge {
-    ghost then = { TellsCountEdge };
+impl<N: Owed> Play<(), View> for CountEdge<N> {
+    ghost then = { TellsCountEdge N.task N.outcome N.number };
 }
 
 /// A load of the state of a task that is to be decided.
-pub struct LoadState;
+pub struct LoadState<N> {
+    naming: PhantomData<N>,
+}
 
-impl Play<(), View> for LoadState {
-    ghost then = { TellsState };
+impl<N: Owed> Play<(), View> for LoadState<N> {
+    ghost then = { TellsState N.task };
 }
 
 /// A task is armed.
-pub struct ArmTask;
+pub struct ArmTask<N> {
+    naming: PhantomData<N>,
+}
 
-impl Play<(), View> for ArmTask {
-    ghost then = { TellsArm };
+impl<N: Owed> Play<(), View> for ArmTask<N> {
+    ghost then = { TellsArm N.task };
 }

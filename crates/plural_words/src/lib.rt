@@ -11,6 +11,7 @@ mod closed;
 mod field;
 mod key;
 mod law;
+mod named;
 mod opening;
 mod place;
 mod running;

@@ -1,0 +1,5 @@
+use Rattle.plural_words.specs.Settling.{outcome_told, place_told}
+use Rattle.plural_words.proofs.words.Words.count_edge.Given as goal
+
+abbrev pub ghosts-count_edge_as : goal.ghosts-count_edge_as
+ghosts-count_edge_as a = record { task = a._t; number = place_told a.seat.now.view.owes a._t; outcome = outcome_told a.seat.now.view.owes a._t }

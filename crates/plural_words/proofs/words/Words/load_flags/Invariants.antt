@@ -1,0 +1,5 @@
+use Rattle.plural_map.specs.declared.outcome.Outcome.TheVariants as outcome
+use Rattle.plural_words.proofs.words.Words.load_flags.Given as goal
+
+abbrev pub ghosts-load_flags_as : goal.ghosts-load_flags_as
+ghosts-load_flags_as a = record { task = a.t; number = 0; outcome = outcome.Failed }
