@@ -1,7 +1,9 @@
 -- What the words say when they are closed. (This project's own.)
 use Rattle.std.specs.Prelude.{ℕ, ◌≡◌, List}
+use Rattle.std.specs.List.{Contains}
 use mathlib.Core.Option.{some}
 use lib.ListN.{get_elem?}
+use Rattle.plural_map.specs.declared.outcome.Outcome.{Outcome}
 use Rattle.plural_rule.specs.Opening.{Opening}
 use Rattle.plural_rule.specs.Content.{content}
 use Rattle.plural_rule.specs.Kept.{Kept}
@@ -13,6 +15,11 @@ pub record ClosedSeen : Type 0 where
   pub opening : Opening
   pub words : List ℕ
   pub root : View
+
+-- The view has told task t.
+pub record HasToldTask (v : View) (t : ℕ) : Type 0 where
+  pub outcome : Outcome
+  pub there : Contains v.told (t, outcome)
 
 -- The rule holds of them, with the root's view as the first. If the root had told every task, they are the last ones.
 pub record IsClosed (c : ClosedSeen) : Type 0 where

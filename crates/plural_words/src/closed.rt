@@ -5,7 +5,9 @@ use crate::field::Field;
 use crate::key::Key;
 use crate::law::Law;
 use crate::place::Place;
+use crate::settling::{outcome_of_flags, outcome_of_state};
 use atomic_table::Table;
+use plural_map::Outcome;
 use plural_rule::View;
 use std::alloc::Global;
 use std::marker::Model;
@@ -16,6 +18,7 @@ pub struct Closed {
     pub(crate) inner: atomic_table::Closed<(), Global>,
     pub(crate) places: Vec<Place>,
     pub(crate) counters: usize,
+    pub(crate) cores: u32,
     pub(crate) table: Snapshot<Table<(), View, Key, Law, Global>>,
     pub(crate) root: Snapshot<atomic_table::Seat<(), View>>,
 }
@@ -31,12 +34,13 @@ impl Model for Closed {
 
     ghost view = { λ c. record { opening = c.table.value.shared.key; words = slots_items c.inner.words; root = c.root.value.me.0 } };
 
-    ghost invariant = { λ c. (IsFull c.inner.words × (slots_len c.inner.slots ≡ 0) × (slots_len c.inner.words ≡ word_count c.table.value.shared.key.program)) × HasPlaces c.table.value.shared.key.program c.places.items c.counters × IsClosed (record { opening = c.table.value.shared.key; words = slots_items c.inner.words; root = c.root.value.me.0 }) };
+    ghost invariant = { λ c. (IsFull c.inner.words × (slots_len c.inner.slots ≡ 0) × (slots_len c.inner.words ≡ word_count c.table.value.shared.key.program)) × HasPlaces c.table.value.shared.key.program c.places.items c.counters × IsClosed (record { opening = c.table.value.shared.key; words = slots_items c.inner.words; root = c.root.value.me.0 }) × (c.cores ≡ c.table.value.shared.key.cores) };
 }
 
 impl Closed {
-    ghost use Rattle.plural_rule.specs.Opening.{IsInstance};
+    ghost use Rattle.plural_rule.specs.Opening.{IsInstance, outcome_of};
     ghost use Rattle.plural_rule.specs.Layout.{field_at};
+    ghost use Rattle.plural_words.specs.Closing.{HasToldTask};
     ghost use Rattle.plural_words.specs.Fields.{number_of};
 
     /// Word `a` of the memory, in words from 0.
@@ -55,6 +59,27 @@ impl Closed {
         let index = self.places[t as usize].records + 8 * k as usize + field.number() as usize;
         self.inner.word(index)
     }
+
+    /// The outcome of task t, which the root had told: that of the serial run. If the task was armed its flags say it,
+    /// else its state does.
+    pub fn outcome(&self, t: u32) -> Outcome
+        requires told { HasToldTask self.now.root t }
+        ensures { result ≡ outcome_of self.now.opening t }
+    {
+        let task = self.counters + 5 * t as usize;
+        if self.inner.word(task) == 0 {
+            outcome_of_state(self.inner.word(task + 3))
+        } else {
+            outcome_of_flags(self.inner.word(task + 1))
+        }
+    }
+
+    /// How many cores the words were opened for.
+    pub fn cores(&self) -> u32
+        ensures { result ≡ self.now.opening.cores }
+    {
+        self.cores
+    }
 }
 
 impl Drop for Closed {
@@ -63,6 +88,7 @@ impl Drop for Closed {
             inner,
             places,
             counters: _,
+            cores: _,
             table: _,
             root: _,
         } = self;

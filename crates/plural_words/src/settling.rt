@@ -5,6 +5,7 @@ ghost use Rattle.std.specs.Int.{bit_at};
 ghost use Rattle.std.specs.List.{Contains};
 ghost use Rattle.plural_order.specs.TaskGraph.{outcome_by, decide_by, decision_by};
 ghost use Rattle.plural_counters.specs.Counters.{IsSound};
+ghost use Rattle.plural_counters.specs.Laws.{outcome_of_state};
 ghost use Rattle.plural_counters.specs.Steps.{tell_first, tell_next, on_decision};
 ghost use Rattle.plural_counters.specs.declared.duty.Duty.TheVariants.{Flag, Count, Close, Decide, Arm};
 ghost use Rattle.plural_rule.specs.Opening.{task_count, graph_in, ends_of, edges_of, outcome_of};
@@ -27,7 +28,7 @@ fn bit(word: u64, place: u32) -> u64
 }
 
 // The outcome that the flags of a task say.
-fn outcome_of_flags(flags: u64) -> Outcome
+pub(crate) fn outcome_of_flags(flags: u64) -> Outcome
     ensures { result ≡ outcome_by (bit_at flags 1) (bit_at flags 0) }
 {
     let failed = bit(flags, 1);
@@ -38,6 +39,18 @@ fn outcome_of_flags(flags: u64) -> Outcome
         Outcome::Ended1
     } else {
         Outcome::Ended0
+    }
+}
+
+// The outcome that the state of a task says, if it isn't to run.
+pub(crate) fn outcome_of_state(state: u64) -> Outcome
+    ensures { result ≡ outcome_of_state state }
+{
+    let failed = bit(state, 0);
+    if failed != 0 {
+        Outcome::Failed
+    } else {
+        Outcome::Skipped
     }
 }
 

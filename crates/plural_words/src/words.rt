@@ -148,7 +148,7 @@ impl Words {
             places,
             counters,
             memory: _,
-            cores: _,
+            cores,
         } = self;
         let Root { token } = root;
         let seen = Snapshot::of(&token);
@@ -158,6 +158,7 @@ impl Words {
             inner,
             places,
             counters,
+            cores,
             table: opened,
             root: seen,
         }

@@ -33,6 +33,7 @@ invariant_of-result c =
       ),
       subst (λ (o : Opening). HasPlaces o.program c.self.inside.places.items c.self.inside.counters) (sym key) c.self.invariant.0,
       closed d,
+      c.self.invariant.3 ∙ ap (λ (o : Opening). o.cores) (sym key),
     )
 
 pub returns-clause-closed : goal.returns-clause-closed
