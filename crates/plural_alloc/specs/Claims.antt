@@ -39,10 +39,11 @@ claimed quota t claim v = record v {
   stage = stage_after t claim;
 }
 
--- What an answer says besides, if the seat had found this much: the task has the instance that was claimed; what the
--- exchange saw is more than this call's load, which found an armed task and no less than the seat had found.
+-- What an answer says besides, if the seat had found this much: the task has the instance that was claimed, which the
+-- seat hadn't found handed out; what the exchange saw is more than this call's load, which found an armed task and no
+-- less than the seat had found.
 abbrev pub IsClaim : (quota found : ℕ) → Claim → Type 0
-IsClaim quota found (Got k) = k < quota
+IsClaim quota found (Got k) = (k < quota) × (found ≤ k + 1)
 IsClaim quota found Unarmed = Unit {0}
 IsClaim quota found Handed = Unit {0}
 IsClaim quota found (Lost saw) =
