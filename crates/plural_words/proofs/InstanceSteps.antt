@@ -1,20 +1,27 @@
 -- Steps of a seat that holds an instance.
 use Rattle.std.proofs.Common.{◌≡◌, ℕ, ◌+◌, ◌%◌, ◌^◌, ◌<◌, ◌≤◌, true, List, ◌∷◌, length, get_or, set, drop, sym, refl, ap, ◌∙◌, subst, arith}
-use mathlib.Core.Option.{none}
+use mathlib.Core.Option.{none, some}
+use lib.ListN.{get_elem?}
 use Rattle.atomic_table.specs.Table.{step, Allows}
 use Rattle.plural_serial.specs.Program.{ProgramValue}
-use Rattle.plural_rule.specs.Opening.{Opening, IsInstance, MayRead, world_in, stores_of}
-use Rattle.plural_order.specs.World.{value_at}
+use Rattle.plural_rule.specs.Opening.{Opening, IsInstance, HasSerialRun, MayRead, world_in, stores_of}
+use Rattle.plural_order.specs.World.{value_at, start_at}
+use Rattle.plural_order.proofs.Runs.{starts_long}
+use Rattle.plural_counters.proofs.Sums.{pair_same}
 use Rattle.plural_rule.specs.Layout.{clock_at, field_at, done_at, counters_at}
+use Rattle.plural_rule.specs.Content.{content}
 use Rattle.plural_rule.specs.Kept.{Kept}
+use Rattle.plural_rule.specs.Stages.{holds, IsStage}
 use Rattle.plural_rule.specs.Laws.{HasNoted}
-use Rattle.plural_rule.specs.Steps.{began, did_read, stored, ended, one_note, did_note, finished}
+use Rattle.plural_rule.specs.Steps.{begun_at, began, did_read, stored, ended, one_note, did_note, finished}
+use Rattle.plural_rule.specs.declared.view.View.{View}
 use Rattle.plural_rule.specs.declared.view.Stage.{Stage}
 use Rattle.plural_rule.specs.declared.view.Stage.TheVariants.{Free, Got, Begun, Ended}
 use Rattle.plural_rule.specs.declared.view.Role.TheVariants.{Seat}
 use Rattle.plural_rule.proofs.Writes.{field_low}
+use Rattle.plural_rule.proofs.Live.{held_once, live_runs}
 use Rattle.plural_rule.proofs.InstanceLaws.{begins_instance, ends_instance, loads_memory, stores_memory, notes_a_field, finishes_instance}
-use Rattle.plural_words.specs.Stages.{IsGot, memory_of, may_read, to_come, HasRun, IsEnded, IsNoted}
+use Rattle.plural_words.specs.Stages.{IsGot, instance_of, IsUnderWay, memory_of, may_read, to_come, HasRun, IsEnded, IsNoted}
 use Rattle.plural_words.specs.Places.{record_at, IsPlaceOf}
 use Rattle.plural_words.specs.Tells.{Holds, Token, IsNow, TellsBegin, TellsRead, TellsStore, TellsEnd, TellsNote, TellsFinish}
 use Rattle.plural_words.proofs.Moves.{loads, writes}
@@ -30,6 +37,32 @@ got_is (Ended t k start end reads noted) h = absurd h
 
 -- ---- the clock
 
+-- The words of the memory at a start are those of the map.
+start_words : (o : Opening) (t k : ℕ) → HasSerialRun o → length (value_at (world_in o) (t, k) 0) ≡ o.program.map.words
+unfolding value_at
+start_words o t k run = starts_long (world_in o) run.world (t, k) ∙ run.words
+
+-- Before its first store an instance has the memory of its start.
+start_value : (o : Opening) (t k : ℕ) → value_at (world_in o) (t, k) 0 ≡ start_at (world_in o) (t, k)
+unfolding value_at
+start_value o t k = refl
+
+-- An instance that a seat was handed is one of the serial run, and is under way as there once it has begun.
+under_way : (o : Opening) (ws : List ℕ) (views : List View) (id : ℕ) (v : View) (start t k : ℕ) → Kept o ws views → get_elem? views id ≡ some v → v.stage ≡ Got t k
+    → IsUnderWay o (instance_of v.stage) start (began v start).stage
+under_way o ws views id v start t k kept at got =
+    let c = content o.program ws in
+    let inst : IsInstance o.program t k = subst (λ (s : Stage). IsStage o c.clock s) got (kept.rule.known id v at).stage in
+    let one : holds v.stage t k ≡ 1 = ap (λ s. holds s t k) got ∙ pair_same t k t k refl refl in
+    let live = held_once o c views id v t k at kept.rule.held inst one in
+    let P : Stage → Type 0 = λ s. IsUnderWay o (instance_of s) start (begun_at s start) in
+    subst P (sym got) (record {
+      stage = refl;
+      runs = live_runs o c kept.rule.run kept.rule.tasks t k live.1;
+      memory = start_value o t k;
+      long = start_words o t k kept.rule.run;
+    })
+
 own_begin : (n id : ℕ) (m : Token) (core : ℕ) → m.0.role ≡ Seat core → IsGot m.0.stage
     → Allows (Holds m.0.opening) n id m (clock_at m.0.opening.program) (λ y. (y + 1) % 2 ^ 64) (TellsBegin (step n (clock_at m.0.opening.program) 1 0 none) m)
 own_begin n id m core role got = let o = m.0.opening in let i = clock_at o.program in
@@ -38,7 +71,8 @@ own_begin n id m core role got = let o = m.0.opening in let i = clock_at o.progr
     let g = got_is m.0.stage got in
     let is = begins_instance o ws views id m.0 core k at role g.0 g.1 g.2 in
     let value : (clock + 1) % 2 ^ 64 ≡ clock + 1 = omega (arith, is.low) in
-    (began m.0 clock, subst (λ (y : ℕ). Kept o (set ws i y) (set views id (began m.0 clock))) (sym value) is.kept, (refl, is.low)))
+    let started = under_way o ws views id m.0 clock g.0 g.1 k at g.2 in
+    (began m.0 clock, subst (λ (y : ℕ). Kept o (set ws i y) (set views id (began m.0 clock))) (sym value) is.kept, (refl, is.low, started)))
 
 -- The table allows it.
 pub begin_allowed : (o : Opening) (n id : ℕ) (m : Token) (core i : ℕ) → m.0.opening ≡ o → m.0.role ≡ Seat core → IsGot m.0.stage → i ≡ clock_at o.program

@@ -1,7 +1,7 @@
 -- What a call asks of the stage of a seat. (This project's own.)
 use Rattle.std.specs.Prelude.{ℕ, ◌≡◌, ◌*◌, Bool, false, List, [], length, drop}
-use Rattle.plural_order.specs.World.{value_at}
-use Rattle.plural_rule.specs.Opening.{Opening, world_in, stores_of, record_of}
+use Rattle.plural_order.specs.World.{value_at, start_at}
+use Rattle.plural_rule.specs.Opening.{Opening, Runs, world_in, stores_of, record_of}
 use Rattle.plural_rule.specs.Laws.{HasNoted}
 use Rattle.plural_rule.specs.declared.view.Stage.{Stage}
 use Rattle.plural_rule.specs.declared.view.Stage.TheVariants.{Free, Got, Begun, Ended}
@@ -12,6 +12,20 @@ IsGot Free = ⊥
 IsGot (Got t k) = Unit {0}
 IsGot (Begun t k start made reads) = ⊥
 IsGot (Ended t k start end reads noted) = ⊥
+
+-- The instance that it holds. ((0, 0) if it holds none.)
+abbrev pub instance_of : Stage → ℕ × ℕ
+instance_of Free = (0, 0)
+instance_of (Got t k) = (t, k)
+instance_of (Begun t k start made reads) = (t, k)
+instance_of (Ended t k start end reads noted) = (t, k)
+
+-- Its instance is under way.
+abbrev pub IsBegun : Stage → Type 0
+IsBegun Free = ⊥
+IsBegun (Got t k) = ⊥
+IsBegun (Begun t k start made reads) = Unit {0}
+IsBegun (Ended t k start end reads noted) = ⊥
 
 -- The memory of its instance in the serial run, after the stores that it has made. (Empty if none is under way.)
 abbrev pub memory_of : Opening → Stage → List ℕ
@@ -26,6 +40,14 @@ may_read o Free a = false
 may_read o (Got t k) a = false
 may_read o (Begun t k start made reads) a = (world_in o).reads (t, k) a
 may_read o (Ended t k start end reads noted) a = false
+
+-- Instance i of the serial run is under way since this start ticket, and has made no store and read no word. Its memory
+-- is the one at its start in the serial run, and has the map's words.
+pub record IsUnderWay (o : Opening) (i : ℕ × ℕ) (start : ℕ) (s : Stage) : Type 0 where
+  pub stage : s ≡ Begun i.0 i.1 start 0 0
+  pub runs : Runs o i.0 i.1
+  pub memory : memory_of o s ≡ start_at (world_in o) i
+  pub long : length (memory_of o s) ≡ o.program.map.words
 
 -- The stores that its instance has still to make.
 abbrev pub to_come : Opening → Stage → List (ℕ × ℕ)

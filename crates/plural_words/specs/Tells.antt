@@ -18,7 +18,7 @@ use Rattle.plural_rule.specs.Last.{KnowsWhole, HasTold}
 use Rattle.plural_rule.specs.declared.view.View.{View}
 use Rattle.plural_rule.specs.declared.view.Role.TheVariants.{Root}
 use Rattle.plural_words.specs.Places.{record_at}
-use Rattle.plural_words.specs.Stages.{memory_of, may_read}
+use Rattle.plural_words.specs.Stages.{instance_of, memory_of, may_read, IsUnderWay}
 use Rattle.plural_words.specs.Settling.{settled, armed_now}
 
 -- The rule holds of the words and of all views. No slot is used.
@@ -53,9 +53,10 @@ TellsExchange step m found n = (t : ℕ) → t < task_count m.0.opening.program
 
 -- ---- an instance
 
--- A ticket is drawn, with which the instance begins.
+-- A ticket is drawn, with which the instance begins, as in the serial run.
 abbrev pub TellsBegin : Tells
 TellsBegin step m found n = IsNow m (began m.0 found) n × (found ≤ 131072)
+    × IsUnderWay m.0.opening (instance_of m.0.stage) found (began m.0 found).stage
 
 -- A load of a word of the memory.
 abbrev pub TellsRead : Tells

@@ -6,7 +6,7 @@ ghost use Rattle.plural_rule.specs.Stages.{noted_of};
 ghost use Rattle.plural_rule.specs.Steps.{began, did_read, stored, ended, did_note, finished};
 ghost use Rattle.plural_words.specs.Fields.{number_of};
 ghost use Rattle.plural_words.specs.Seen.{IsSeatOf, seat_with};
-ghost use Rattle.plural_words.specs.Stages.{IsGot, memory_of, may_read, to_come, HasRun, IsEnded, noted_in, IsNoted};
+ghost use Rattle.plural_words.specs.Stages.{IsGot, instance_of, IsUnderWay, memory_of, may_read, to_come, HasRun, IsEnded, noted_in, IsNoted};
 
 use crate::field::Field;
 use crate::law::{Begin, End, Finish, Note, Read, Store};
@@ -21,12 +21,14 @@ impl Words {
         self.counters + 5 * self.places.len()
     }
 
-    /// Begins the instance that the seat was handed, and answers its start ticket. One step on the clock.
+    /// Begins the instance that the seat was handed, and answers its start ticket. It is an instance of the serial run,
+    /// and is under way with the memory that it has there. One step on the clock.
     pub fn begin(&self, seat: &mut Seat) -> u32
         requires of { IsSeatOf self.now seat.old }
         requires got { IsGot seat.old.view.stage }
         ensures of { IsSeatOf self.now seat.new }
         ensures seat { seat.new ≡ seat_with seat.old (began seat.old.view result) }
+        ensures under_way { IsUnderWay self.now.opening (instance_of seat.old.view.stage) result seat.new.view.stage }
     {
         let index = self.clock_index();
         self.table
