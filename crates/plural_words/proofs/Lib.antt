@@ -3,6 +3,7 @@ pub mod Moves
 pub mod Tokens
 pub mod AllocSteps
 pub mod InstanceSteps
+pub mod Lent
 pub mod RootSteps
 pub mod Opens
 pub mod Closes

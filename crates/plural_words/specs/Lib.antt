@@ -1,6 +1,8 @@
 pub mod Seen
 pub mod Places
 pub mod Stages
+pub mod Lent
+pub mod LawfulWords
 pub mod Fields
 pub mod Settling
 pub mod Tells

@@ -6,6 +6,7 @@
 //! single steps under a rule). Nothing here starts a thread.
 #![tactic(auto)]
 
+mod bus;
 mod claiming;
 mod closed;
 mod field;
@@ -19,6 +20,7 @@ mod seat;
 mod settling;
 mod words;
 
+pub use bus::SeatBus;
 pub use closed::Closed;
 pub use field::Field;
 pub use seat::{Root, Seat};
