@@ -4,8 +4,8 @@ use Rattle.std.specs.List.{Contains}
 use Rattle.plural_map.specs.declared.outcome.Outcome.{Outcome}
 use Rattle.plural_words.specs.Seen.{SeatSeen}
 
--- The seat is the same one at the same stage, with as many looks and losses; it has found no less, and has told all that
--- it had told.
+-- The seat is the same one at the same stage, with as many looks and losses; it has found no less, and has told all
+-- that it had told.
 pub record IsKept (old new : SeatSeen) : Type 0 where
   pub table : new.table ≡ old.table
   pub core : new.core ≡ old.core

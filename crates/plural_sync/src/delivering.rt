@@ -1,6 +1,6 @@
 //! Delivering an instance: the steps that settle it, and all that they make due.
-ghost use Rattle.std.specs.Prelude.{◌≡◌, ◌<◌, ◌≤◌, ◌∷◌, [], length};
-ghost use Rattle.plural_counters.specs.declared.duty.Duty.TheVariants.{Flag, Close, Tell, Decide};
+ghost use Rattle.std.specs.Prelude.{◌≡◌, ◌<◌, ◌≤◌, ◌∷◌, []};
+ghost use Rattle.plural_counters.specs.declared.duty.Duty.TheVariants.{Flag, Close, Decide};
 ghost use Rattle.plural_rule.specs.Opening.{task_count, record_of};
 ghost use Rattle.plural_words.specs.Seen.{IsSeatOf};
 ghost use Rattle.plural_sync.specs.Deliveries.{IsKept};
@@ -16,8 +16,8 @@ use plural_serial::Program;
 use plural_words::{Seat, Words};
 
 impl Synchroniser {
-    /// Delivers instance k of task t, which the seat has just finished and which ended so: flags and counts it and, if it
-    /// was the last of its task, settles all that this makes due. The seat owes nothing then.
+    /// Delivers instance k of task t, which the seat has just finished and which ended so: flags and counts it and, if
+    /// it was the last of its task, settles all that this makes due. The seat owes nothing then.
     pub fn deliver(
         &self,
         program: &Program,

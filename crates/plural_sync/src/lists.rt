@@ -1,7 +1,7 @@
 //! The lists of successors.
-ghost use Rattle.std.specs.Prelude.{◌≡◌, ◌≢◌, ◌<◌, ◌∷◌, ◌++◌, [], length, slice_set, OnOk, IfOk};
+ghost use Rattle.std.specs.Prelude.{◌≡◌, ◌≢◌, ◌<◌, [], length, OnOk, IfOk};
 ghost use Rattle.std.specs.List.{All, AllPairs};
-ghost use Rattle.plural_sync.specs.Lists.{rows_of, row, AreSuccessors, HasGained};
+ghost use Rattle.plural_sync.specs.Lists.{rows_of, with_pushed, AreSuccessors, HasGained};
 
 use plural_base::Memory;
 use plural_map::Dep;
@@ -11,7 +11,7 @@ use std::alloc::Global;
 // Puts u at the end of list t.
 fn push_to(lists: &mut Vec<Vec<u32>>, t: usize, u: u32) -> Result<(), Memory>
     requires { t < length lists.old.items }
-    ensures { OnOk result (rows_of lists.new.items ≡ slice_set (rows_of lists.old.items) t (row (rows_of lists.old.items) t ++ u ∷ [])) }
+    ensures { OnOk result (rows_of lists.new.items ≡ with_pushed (rows_of lists.old.items) t u) }
 {
     lists[t].push(u)?;
     Ok(())

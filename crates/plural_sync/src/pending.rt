@@ -1,8 +1,8 @@
 //! The tasks that a core is telling, in an array of fixed size.
 ghost use Rattle.std.specs.Prelude.{◌≡◌, ◌<◌, ◌++◌, length};
 ghost use Rattle.arrayvec.specs.ArrayVec.{array_vec_len};
-ghost use Rattle.plural_counters.specs.Steps.{tell_first, tell_next, owed_in};
-ghost use Rattle.plural_sync.specs.Pending.{tells};
+ghost use Rattle.plural_counters.specs.Steps.{tell_first, owed_in};
+ghost use Rattle.plural_sync.specs.Pending.{tells, tells_next};
 
 use arrayvec::ArrayVec;
 use plural_map::Outcome;
@@ -46,7 +46,7 @@ pub(crate) fn begin(pending: &mut Pending, successors: &[u32], task: u32, outcom
 pub(crate) fn go_on(pending: &mut Pending, successors: &[u32], telling: Telling)
     requires room { array_vec_len pending.old < 256 }
     requires place { telling.place < length successors.now }
-    ensures { tells pending.new.items ≡ owed_in (tell_next successors.now telling.task telling.outcome telling.place) ++ tells pending.old.items }
+    ensures { tells pending.new.items ≡ tells_next successors.now telling ++ tells pending.old.items }
 {
     let next = telling.place + 1;
     if next < successors.len() {

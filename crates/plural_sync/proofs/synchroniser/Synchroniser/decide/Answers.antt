@@ -21,7 +21,7 @@ begin-requires-in-Fail c =
 pub returns-in-Skip-clause-kept : goal.returns-in-Skip-clause-kept
 returns-in-Skip-clause-kept c =
     let g = graph_in c.args.words.now.opening in
-    kept_settled c.args.seat.now c.load_state.new.seat (on_decision g c.args.u (decision_by g c.args.u)) c.load_state.ensures.seat
+    kept_settled c.args.seat.now c.load_state.new.seat (Decide c.args.u) (on_decision g c.args.u (decision_by g c.args.u)) c.load_state.ensures.seat
 
 pub returns-in-Skip-clause-further : goal.returns-in-Skip-clause-further
 returns-in-Skip-clause-further c =
@@ -31,7 +31,7 @@ returns-in-Skip-clause-further c =
 pub returns-in-Fail-clause-kept : goal.returns-in-Fail-clause-kept
 returns-in-Fail-clause-kept c =
     let g = graph_in c.args.words.now.opening in
-    kept_settled c.args.seat.now c.load_state.new.seat (on_decision g c.args.u (decision_by g c.args.u)) c.load_state.ensures.seat
+    kept_settled c.args.seat.now c.load_state.new.seat (Decide c.args.u) (on_decision g c.args.u (decision_by g c.args.u)) c.load_state.ensures.seat
 
 pub returns-in-Fail-clause-further : goal.returns-in-Fail-clause-further
 returns-in-Fail-clause-further c =
