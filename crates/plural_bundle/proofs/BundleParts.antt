@@ -75,7 +75,7 @@ module _ (p : Parts) (g : AreGood p) where
   -- the parts as what was read of their lines
   at_parts : (input rest : List TextLine) → kernel_lines input ≡ p.kernel_part
       → AtImage input (lines_then p rest) (from_map p rest) (p.map_part ++ from_kernels p rest) p.map_part (from_kernels p rest) (p.kernel_part ++ from_image p rest) p.kernel_part (from_image p rest) (p.image_part ++ from_end p rest) p.image_part
-      (from_end p rest) (names_of p.kernel_part) p.version p.at_kernels
+      (from_end p rest) (names_of p.kernel_part) p.version p.at_kernels (map_of p.map_part)
   at_parts input rest own = record {
     at_kernels = record {
       at_map = record {
@@ -87,6 +87,7 @@ module _ (p : Parts) (g : AreGood p) where
         shut = refl;
       };
       good = g.map_good;
+      value = refl;
       header = kernels_headed rest;
       own = sym (before_at (λ m. closes m.1) p.kernel_part (p.at_image, codes "[image]") (p.image_part ++ from_end p rest) g.kernels_stay refl);
       whole = refl;

@@ -78,11 +78,11 @@ pub at_kernels : {input all r1 r2 maps back r4 lines after : List TextLine} {lab
 at_kernels a g h o w s = record { at_map = a; good = g.0; value = g.1; header = h; own = o; whole = w; shut = s }
 
 -- After kernels without a fault and the header of the image, the lines stand in its section.
-pub at_image : {input all r1 r2 maps back r4 kernels after r6 lines last : List TextLine} {labels : List (List ℕ)} {version number : ℕ} {tasks : MapValue} {More : Type 0}
-    → AtKernels input all r1 r2 maps back r4 kernels after labels version number tasks → IsFaultless (asm.Breaks kernels) kernels × More
+pub at_image : {input all r1 r2 maps back r4 kernels after r6 lines last : List TextLine} {labels : List (List ℕ)} {version number : ℕ} {tasks : MapValue}
+    → AtKernels input all r1 r2 maps back r4 kernels after labels version number tasks → IsFaultless (asm.Breaks kernels) kernels
     → IsHeaded (codes "[image]") after r6 → lines ≡ up_to_header r6 → r6 ≡ lines ++ last → IsClosed last
     → AtImage input all r1 r2 maps back r4 kernels after r6 lines last labels version number tasks
-at_image a g h o w s = record { at_kernels = a; good = g.0; header = h; own = o; whole = w; shut = s }
+at_image a g h o w s = record { at_kernels = a; good = g; header = h; own = o; whole = w; shut = s }
 
 -- ---- the map's section
 

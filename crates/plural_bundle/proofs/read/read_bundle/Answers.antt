@@ -64,7 +64,8 @@ pub returns-in_err-words-clause-answer : goal.returns-in_err-words-clause-answer
 returns-in_err-words-clause-answer c =
     let m = at_map (text_lines c.args.input.now) (c.deref.ensures.value ∙ c.in_ok-labels.ensures ∙ ap names_of c.section_of.ensures.section) c.in_ok-begun.ensures.answer c.in_ok-after_header.ensures.answer c.next_section-map.ensures.lines c.next_section-map.ensures.whole c.next_section-map.ensures.closed in
     let k = at_kernels m (value_passed _ _ _ _ c.parse.ensures c.in_ok-tasks.ensures) c.in_ok-after_header-2.ensures.answer c.next_section-kernels.ensures.lines c.next_section-kernels.ensures.whole c.next_section-kernels.ensures.closed in
-    let i = at_image k (value_passed _ _ _ _ c.assemble.ensures c.in_ok-object.ensures) c.in_ok-after_header-3.ensures.answer c.next_section-image.ensures.lines c.next_section-image.ensures.whole c.next_section-image.ensures.closed in
+    let object = value_passed _ _ _ _ c.assemble.ensures c.in_ok-object.ensures in
+    let i = at_image k object.0 c.in_ok-after_header-3.ensures.answer c.next_section-image.ensures.lines c.next_section-image.ensures.whole c.next_section-image.ensures.closed in
     answered c.from_residual-in_err-words.result _ _ c.in_err-words.field-0.0 c.from_residual-in_err-words.ensures.1
     (error_passed image_fault c.read_image.result c.in_err-words.field-0.0 _ _ (Faults (text_lines c.args.input.now) (text_lines c.args.lines.now) c.args.end) c.read_image.ensures c.in_err-words.ensures
     (λ e f. image_faults i c.args.end c.words.result c.words.ensures.value e f))
@@ -74,7 +75,8 @@ pub returns-in_err-after_header-4-clause-answer : goal.returns-in_err-after_head
 returns-in_err-after_header-4-clause-answer c =
     let m = at_map (text_lines c.args.input.now) (c.deref.ensures.value ∙ c.in_ok-labels.ensures ∙ ap names_of c.section_of.ensures.section) c.in_ok-begun.ensures.answer c.in_ok-after_header.ensures.answer c.next_section-map.ensures.lines c.next_section-map.ensures.whole c.next_section-map.ensures.closed in
     let k = at_kernels m (value_passed _ _ _ _ c.parse.ensures c.in_ok-tasks.ensures) c.in_ok-after_header-2.ensures.answer c.next_section-kernels.ensures.lines c.next_section-kernels.ensures.whole c.next_section-kernels.ensures.closed in
-    let i = at_image k (value_passed _ _ _ _ c.assemble.ensures c.in_ok-object.ensures) c.in_ok-after_header-3.ensures.answer c.next_section-image.ensures.lines c.next_section-image.ensures.whole c.next_section-image.ensures.closed in
+    let object = value_passed _ _ _ _ c.assemble.ensures c.in_ok-object.ensures in
+    let i = at_image k object.0 c.in_ok-after_header-3.ensures.answer c.next_section-image.ensures.lines c.next_section-image.ensures.whole c.next_section-image.ensures.closed in
     let words = value_passed _ _ _ _ c.read_image.ensures c.in_ok-words.ensures in
     answered c.from_residual-in_err-after_header-4.result _ _ c.in_err-after_header-4.field-0.0 c.from_residual-in_err-after_header-4.ensures.1
     (end_missing i c.args.end c.words.result c.words.ensures.value words.0 c.in_err-after_header-4.field-0.0 c.in_err-after_header-4.ensures.answer)
@@ -84,7 +86,8 @@ pub returns-in_err-nothing_after-clause-answer : goal.returns-in_err-nothing_aft
 returns-in_err-nothing_after-clause-answer c =
     let m = at_map (text_lines c.args.input.now) (c.deref.ensures.value ∙ c.in_ok-labels.ensures ∙ ap names_of c.section_of.ensures.section) c.in_ok-begun.ensures.answer c.in_ok-after_header.ensures.answer c.next_section-map.ensures.lines c.next_section-map.ensures.whole c.next_section-map.ensures.closed in
     let k = at_kernels m (value_passed _ _ _ _ c.parse.ensures c.in_ok-tasks.ensures) c.in_ok-after_header-2.ensures.answer c.next_section-kernels.ensures.lines c.next_section-kernels.ensures.whole c.next_section-kernels.ensures.closed in
-    let i = at_image k (value_passed _ _ _ _ c.assemble.ensures c.in_ok-object.ensures) c.in_ok-after_header-3.ensures.answer c.next_section-image.ensures.lines c.next_section-image.ensures.whole c.next_section-image.ensures.closed in
+    let object = value_passed _ _ _ _ c.assemble.ensures c.in_ok-object.ensures in
+    let i = at_image k object.0 c.in_ok-after_header-3.ensures.answer c.next_section-image.ensures.lines c.next_section-image.ensures.whole c.next_section-image.ensures.closed in
     let words = value_passed _ _ _ _ c.read_image.ensures c.in_ok-words.ensures in
     answered c.from_residual-in_err-nothing_after.result _ _ c.in_err-nothing_after.field-0.0 c.from_residual-in_err-nothing_after.ensures.1
     (left_faults i c.args.end c.words.result c.words.ensures.value words.0 c.in_ok-after_header-4.ensures.answer c.in_err-nothing_after.field-0.0 c.in_err-nothing_after.ensures)
@@ -100,7 +103,7 @@ returns-clause-answer c =
     let tasks = value_passed _ _ _ _ c.parse.ensures c.in_ok-tasks.ensures in
     let k = at_kernels m (value_passed _ _ _ _ c.parse.ensures c.in_ok-tasks.ensures) c.in_ok-after_header-2.ensures.answer c.next_section-kernels.ensures.lines c.next_section-kernels.ensures.whole c.next_section-kernels.ensures.closed in
     let object = value_passed _ _ _ _ c.assemble.ensures c.in_ok-object.ensures in
-    let i = at_image k (value_passed _ _ _ _ c.assemble.ensures c.in_ok-object.ensures) c.in_ok-after_header-3.ensures.answer c.next_section-image.ensures.lines c.next_section-image.ensures.whole c.next_section-image.ensures.closed in
+    let i = at_image k object.0 c.in_ok-after_header-3.ensures.answer c.next_section-image.ensures.lines c.next_section-image.ensures.whole c.next_section-image.ensures.closed in
     let words = value_passed _ _ _ _ c.read_image.ensures c.in_ok-words.ensures in (
       is_bundle i c.args.end c.words.result c.words.ensures.value words.0 c.in_ok-after_header-4.ensures.answer c.in_ok-nothing_after.ensures,
       value_is i c.words.result _ _ _ _ _ c.words.ensures.value tasks.1 object.1 object.2 c.in_ok-program.ensures.value words.1,
