@@ -3,3 +3,4 @@ pub mod Misses
 pub mod Orders
 pub mod Loads
 pub mod Stores
+pub mod Buffers

@@ -1,5 +1,5 @@
 -- A cache as contracts see it. (This project's own; no section of a standard.)
-use Rattle.std.specs.Prelude.{ℕ, ◌≡◌, ◌-◌, ◌/◌, ◌%◌, ◌<◌, ◌≤◌, ◌==◌, Bool, true, false, List, [], ◌∷◌, length, take, slice_index, slice_index_or, IfSome, replicate}
+use Rattle.std.specs.Prelude.{ℕ, ◌≡◌, ◌-◌, ◌/◌, ◌%◌, ◌<◌, ◌≤◌, Bool, true, false, List, [], ◌∷◌, length, take, slice_index, slice_index_or, IfSome, replicate}
 use Rattle.plural_base.specs.CacheShape.{is_set_count}
 use Rattle.plural_base.specs.Told.{Told}
 use Rattle.plural_cache.specs.declared.set.Line.{Line}

@@ -1,6 +1,9 @@
 pub use Rattle.plural_base.specs.CacheShape
 pub use Rattle.plural_base.specs.Told
+pub use Rattle.plural_base.specs.Stores
 pub mod Miss
 pub mod Lines
 pub mod Bus
 pub mod Cache
+pub mod Buffer
+pub mod Buffering
