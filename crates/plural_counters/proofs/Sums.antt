@@ -105,7 +105,8 @@ module _ {A : Type 0} where
   term_at f (x ∷ xs) zero v e = omega (arith, ap f (some-injective x v e))
   term_at f (x ∷ xs) (suc i) v e = omega (arith, term_at f xs i v e)
 
-  term_or : (f : A → ℕ) (l : List A) (i : ℕ) (d : A) → i < length l → f (get_or l i d) ≤ sum_over f l
+  -- So is a term by its place.
+  pub term_or : (f : A → ℕ) (l : List A) (i : ℕ) (d : A) → i < length l → f (get_or l i d) ≤ sum_over f l
   term_or f [] i d h = absurd (omega arith)
   term_or f (x ∷ xs) zero d h = omega arith
   term_or f (x ∷ xs) (suc i) d h = omega (arith, term_or f xs i d (omega arith))

@@ -19,24 +19,27 @@ use Rattle.plural_rule.proofs.ViewSums.{handed_yes, handed_no}
 use Rattle.plural_rule.proofs.TicketSums.{sum_change}
 
 -- The sum over all instances.
-abbrev over_all : Opening → (ℕ → ℕ → ℕ) → ℕ
+abbrev pub over_all : Opening → (ℕ → ℕ → ℕ) → ℕ
 over_all o f = sum_below (λ t. sum_below (λ k. f t k) (quota_of o.program t)) (task_count o.program)
 
-all_same : (o : Opening) (f g : ℕ → ℕ → ℕ) → ((t k : ℕ) → IsInstance o.program t k → f t k ≡ g t k) → over_all o f ≡ over_all o g
+-- Sums of equal parts are equal.
+pub all_same : (o : Opening) (f g : ℕ → ℕ → ℕ) → ((t k : ℕ) → IsInstance o.program t k → f t k ≡ g t k) → over_all o f ≡ over_all o g
 all_same o f g same = below_same (λ t. sum_below (λ k. f t k) (quota_of o.program t)) (λ t. sum_below (λ k. g t k) (quota_of o.program t)) (task_count o.program)
     (λ t h. below_same (λ k. f t k) (λ k. g t k) (quota_of o.program t) (λ k i. same t k (h, i)))
 
-all_add : (o : Opening) (f g : ℕ → ℕ → ℕ) → over_all o (λ t k. f t k + g t k) ≡ over_all o f + over_all o g
+-- The sum of sums of two is the sum of both sums.
+pub all_add : (o : Opening) (f g : ℕ → ℕ → ℕ) → over_all o (λ t k. f t k + g t k) ≡ over_all o f + over_all o g
 all_add o f g =
     below_same (λ t. sum_below (λ k. f t k + g t k) (quota_of o.program t)) (λ t. sum_below (λ k. f t k) (quota_of o.program t) + sum_below (λ k. g t k) (quota_of o.program t)) (task_count o.program)
     (λ t h. below_add (λ k. f t k) (λ k. g t k) (quota_of o.program t))
     ∙ below_add (λ t. sum_below (λ k. f t k) (quota_of o.program t)) (λ t. sum_below (λ k. g t k) (quota_of o.program t)) (task_count o.program)
 
-all_none : (o : Opening) → over_all o (λ t k. 0) ≡ 0
+-- A sum of nothing but 0 is 0.
+pub all_none : (o : Opening) → over_all o (λ t k. 0) ≡ 0
 all_none o = below_none (λ t. sum_below (λ k. 0) (quota_of o.program t)) (task_count o.program) (λ t h. below_none (λ k. 0) (quota_of o.program t) (λ k i. refl))
 
 -- One instance is one.
-all_one : (o : Opening) (u l : ℕ) → IsInstance o.program u l → over_all o (one_if_pair u l) ≡ 1
+pub all_one : (o : Opening) (u l : ℕ) → IsInstance o.program u l → over_all o (one_if_pair u l) ≡ 1
 all_one o u l i = omega (arith, sum_change o (λ t k. 0) (one_if_pair u l) u l i (λ t k j z. sym z), all_none o, pair_same u l u l refl refl)
 
 -- A stage holds one instance or none.

@@ -1,11 +1,11 @@
 -- The tickets of all instances.
-use Rattle.std.proofs.Common.{◌≡◌, ℕ, ◌+◌, ◌-◌, ◌<◌, ◌≤◌, sym, refl, ap, ⊎_elim, arith, Bool, cond, nat_lt, lt-ltb, le-ltb, eq-eqb, ne_eqb, List}
+use Rattle.std.proofs.Common.{◌≡◌, ℕ, ◌+◌, ◌-◌, ◌<◌, ◌≤◌, sym, refl, ap, ⊎_elim, arith, Bool, cond, eqb, nat_lt, lt-ltb, le-ltb, eq-eqb, ne_eqb, List}
 use mathlib.Core.Logic.{dite}
 use native.Mathlib.Decide.{ℕ_discrete, dec_le}
 use Rattle.plural_order.specs.Sums.{sum_over, sum_below, one_if}
 use Rattle.plural_order.proofs.Sums.{below_same}
 use Rattle.plural_counters.specs.Duties.{one_if_pair}
-use Rattle.plural_counters.proofs.Sums.{one_same, one_else, pair_cases, below_change, below_term}
+use Rattle.plural_counters.proofs.Sums.{one_same, one_else, pair_same, pair_cases, below_change, below_term}
 use Rattle.plural_rule.specs.Opening.{Opening, IsInstance, task_count, quota_of}
 use Rattle.plural_rule.specs.Content.{Content}
 use Rattle.plural_rule.specs.Stages.{drawn}
@@ -64,6 +64,15 @@ all_done_change o c d x t k i same = sum_change o (λ u l. done_drawn x (c.field
 -- A part of the sum over all instances.
 term_of : (o : Opening) (f : ℕ → ℕ → ℕ) (t k : ℕ) → IsInstance o.program t k → f t k ≤ sum_below (λ u. sum_below (λ l. f u l) (quota_of o.program u)) (task_count o.program)
 term_of o f t k i = omega (arith, below_term (λ u. sum_below (λ l. f u l) (quota_of o.program u)) (task_count o.program) t i.0, below_term (λ l. f t l) (quota_of o.program t) k i.1)
+
+-- Two parts of it.
+pub two_of : (o : Opening) (f : ℕ → ℕ → ℕ) (t k u l : ℕ) → IsInstance o.program t k → IsInstance o.program u l → (t ≡ u → k ≡ l → ⊥) → f t k + f u l ≤ sum_below (λ x. sum_below (λ y. f x y) (quota_of o.program x)) (task_count o.program)
+two_of o f t k u l i j differ =
+    let g : ℕ → ℕ → ℕ = λ x y. cond (eqb (one_if_pair t k x y) 0) (f x y) 0 in
+    let stays : (x y : ℕ) → one_if_pair t k x y ≡ 0 → f x y ≡ g x y = λ x y z. sym (ap (λ b. cond b (f x y) 0) (eq-eqb (one_if_pair t k x y) 0 z)) in
+    let gone : g t k ≡ 0 = ap (λ b. cond b (f t k) 0) (ne_eqb (one_if_pair t k t k) 0 (λ z. omega (arith, z, pair_same t k t k refl refl))) in
+    let other = stays u l (pair_other t k u l (λ p. differ p.0 p.1)) in
+    omega (arith, sum_change o f g t k i (λ x y h z. stays x y z), gone, other, term_of o g u l j)
 
 -- The start of a done instance is below the clock, and its end too.
 pub done_low : (o : Opening) (c : Content) (views : List View) (t k : ℕ) → ((x : ℕ) → sum_over (λ v. drawn x v.stage) views + all_done_drawn o c x ≡ cond (nat_lt x c.clock) 1 0) → IsInstance o.program t k → 0 < c.done t k → (c.done t k ≤ c.clock) × (c.field t k 5 < c.clock)

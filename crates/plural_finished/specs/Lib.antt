@@ -1,0 +1,4 @@
+pub mod Rooms
+pub mod Finishing
+pub mod Entering
+pub mod Laws
