@@ -193,20 +193,7 @@ end_fine ended.Exhausted h = refl
 entry_is : (tasks : List TaskValue) (e : Entry) → Differ tasks → e.rec.t < length tasks
     → entry_value tasks (name_at tasks e.rec.t) e.rec.k (end_shape e.rec.«end») (record { instructions = e.rec.instructions; loads = e.rec.loads; misses = e.rec.misses; stores = e.rec.stores })
     (record { core = e.core; start = e.start; end_at = e.end_at }) ≡ e
-entry_is tasks e d l = λ i. record {
-  rec = record {
-    t = number_at tasks e.rec.t d l i;
-    k = e.rec.k;
-    «end» = end_back e.rec.«end» i;
-    instructions = e.rec.instructions;
-    loads = e.rec.loads;
-    misses = e.rec.misses;
-    stores = e.rec.stores;
-  };
-  core = e.core;
-  start = e.start;
-  end_at = e.end_at;
-}
+entry_is tasks e d l = λ i. record e { rec = record e.rec { t = number_at tasks e.rec.t d l i; «end» = end_back e.rec.«end» i } }
 
 small : (n : ℕ) → n < 4294967296 → is_large n ≡ false
 small n h = le-ltb 4294967295 n (omega arith)

@@ -32,20 +32,7 @@ pub record_round_trip : RecordRoundTrip
 record_round_trip tasks e h =
     let ended = end_back e.rec.«end» h.ended in
     let back : 1 + e.end_at - 1 ≡ e.end_at = omega arith in (
-      (λ i. record {
-        rec = record {
-          t = e.rec.t;
-          k = e.rec.k;
-          «end» = ended i;
-          instructions = e.rec.instructions;
-          loads = e.rec.loads;
-          misses = e.rec.misses;
-          stores = e.rec.stores;
-        };
-        core = e.core;
-        start = e.start;
-        end_at = back i;
-      }),
+      (λ i. record e { rec = record e.rec { «end» = ended i }; end_at = back i }),
       record {
         «end» = end_small e.rec.«end» h.ended;
         instructions = let l = h.instructions in omega arith;
