@@ -7,7 +7,7 @@ use Rattle.std.proofs.lemmas.List.{get_or_default, get_or_past}
 use Rattle.plural_regions.specs.declared.region.Region.{Region}
 use Rattle.plural_regions.specs.declared.triple.Meet.{Meet}
 use Rattle.plural_regions.specs.Rights.{IsIn, InReads}
-use Rattle.plural_regions.specs.Bounds.{AllInside}
+use Rattle.plural_regions.specs.Search.{IsSearchable}
 use Rattle.plural_regions.specs.Meeting.{Meets}
 use Rattle.plural_regions.proofs.Regions.{reads_iff}
 use Rattle.plural_map.specs.Value.{TaskValue, MapValue, no_task, task_of}
@@ -40,14 +40,18 @@ few_instances m is t task l e =
     let each : IsTask m.words m.tasks task = subst (λ (x : TaskValue). IsTask m.words m.tasks x) (sym e) (is.each t task l) in
     each.quota_high
 
--- All words of a task of a map are below 1,048,576.
-pub words_inside : (m : MapValue) → IsMap m → (t : ℕ) (task : TaskValue) → t < length m.tasks → task ≡ get_or m.tasks t task → All (λ r. AllInside r task.quota 1048576) task.regions
-words_inside m is t task l e = λ n d within k below a member.
+-- The regions of a task of a map can be searched.
+pub searchable : (m : MapValue) → IsMap m → (t : ℕ) (task : TaskValue) → t < length m.tasks → task ≡ get_or m.tasks t task → All (λ r. IsSearchable r task.quota) task.regions
+searchable m is t task l e = λ n d within.
     let each : IsTask m.words m.tasks task = subst (λ (x : TaskValue). IsTask m.words m.tasks x) (sym e) (is.each t task l) in
     let high = is.words_high in
-    let reads : InReads task.regions k a = (n, get_or task.regions n d, within, get_or_default task.regions n (get_or task.regions n d) d within, member) in
-    let inside = each.inside k a below ((reads_iff task.regions k a).1 reads) in
-    omega arith
+    record {
+      few = each.quota_high;
+      inside = λ k below a member.
+          let reads : InReads task.regions k a = (n, get_or task.regions n d, within, get_or_default task.regions n (get_or task.regions n d) d within, member) in
+          let inside = each.inside k a below ((reads_iff task.regions k a).1 reads) in
+          omega arith;
+    }
 
 -- ---- clashes of two tasks
 

@@ -1,7 +1,7 @@
 //! The least triple at which regions of two tasks meet, one of them a write region.
-ghost use Rattle.std.specs.Prelude.{◌≡◌, ◌≤◌, ◌<◌, ◌↔◌, IsTrue};
+ghost use Rattle.std.specs.Prelude.{◌≡◌, ◌↔◌, IsTrue};
 ghost use Rattle.std.specs.List.{All};
-ghost use Rattle.plural_regions.specs.Bounds.{AllInside};
+ghost use Rattle.plural_regions.specs.Search.{IsSearchable};
 ghost use Rattle.plural_crew.specs.Search.{IsLeastOf, OneWrites, MeetWriting, MeetsSome, SomeMeet, is_less, lesser};
 
 use plural_regions::{Meet, Mode, Region, meet};
@@ -33,10 +33,8 @@ fn one_writes(r: &Region, s: &Region) -> bool
 
 /// The least meeting of two regions, if one of them is a write region.
 fn meet_writing(r: &Region, q1: u32, s: &Region, q2: u32, same_task: bool) -> Option<Meet>
-    requires first_quota { q1 ≤ 16384 }
-    requires second_quota { q2 ≤ 16384 }
-    requires first_words { AllInside r.now q1 1048576 }
-    requires second_words { AllInside s.now q2 1048576 }
+    requires first { IsSearchable r.now q1 }
+    requires second { IsSearchable s.now q2 }
     ensures { IsLeastOf (MeetWriting r.now q1 s.now q2 same_task) result }
 {
     if one_writes(r, s) {
@@ -48,10 +46,8 @@ fn meet_writing(r: &Region, q1: u32, s: &Region, q2: u32, same_task: bool) -> Op
 
 /// The least meeting of a region with those of a list.
 fn meets_some(r: &Region, q1: u32, regions: &[Region], q2: u32, same_task: bool) -> Option<Meet>
-    requires first_quota { q1 ≤ 16384 }
-    requires second_quota { q2 ≤ 16384 }
-    requires first_words { AllInside r.now q1 1048576 }
-    requires second_words { All (λ s. AllInside s q2 1048576) regions.now }
+    requires first { IsSearchable r.now q1 }
+    requires second { All (λ s. IsSearchable s q2) regions.now }
     ensures { IsLeastOf (MeetsSome r.now q1 regions.now q2 same_task) result }
 {
     let mut least = None;
@@ -69,10 +65,8 @@ pub(crate) fn some_meet(
     q2: u32,
     same_task: bool,
 ) -> Option<Meet>
-    requires first_quota { q1 ≤ 16384 }
-    requires second_quota { q2 ≤ 16384 }
-    requires first_words { All (λ r. AllInside r q1 1048576) firsts.now }
-    requires second_words { All (λ s. AllInside s q2 1048576) seconds.now }
+    requires first { All (λ r. IsSearchable r q1) firsts.now }
+    requires second { All (λ s. IsSearchable s q2) seconds.now }
     ensures { IsLeastOf (SomeMeet firsts.now q1 seconds.now q2 same_task) result }
 {
     let mut least = None;

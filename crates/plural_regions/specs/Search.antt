@@ -1,7 +1,13 @@
--- What the parts of the search for the least meeting find.
+-- What can be searched for the least meeting, and what the parts of the search find.
 use Rattle.std.specs.Prelude.{ℕ, ◌+◌, ◌*◌, ◌<◌, ◌≤◌, Bool}
+use Rattle.plural_regions.specs.Bounds.{AllInside}
 use Rattle.plural_regions.specs.Meeting.{Meets, NeverMeet}
 use Rattle.plural_regions.specs.declared.region.Region.{Region}
+
+-- The instances of the region below q can be searched: q is at most 16,384, and all their words are below 1,048,576.
+pub record IsSearchable (r : Region) (q : ℕ) : Type 0 where
+  pub few : q ≤ 16384
+  pub inside : AllInside r q 1048576
 
 -- Instance l of the region has one of the `count` words from `start` on.
 pub record Reaches (r : Region) (start count l : ℕ) : Type 0 where

@@ -1,5 +1,5 @@
 -- A region as one instance has it: a half-open range of words. (This project's own; no section of a standard.)
-use Rattle.std.specs.Prelude.{ℕ, ◌≡◌, ◌+◌, ◌*◌, Bool, true, ◌&&◌, nat_lt, nat_le, List}
+use Rattle.std.specs.Prelude.{ℕ, ◌+◌, ◌*◌, Bool, ◌&&◌, nat_lt, nat_le}
 use Rattle.plural_regions.specs.declared.region.Region.{Region}
 use Rattle.plural_regions.specs.declared.window.Window.{Window}
 

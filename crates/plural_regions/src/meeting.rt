@@ -1,8 +1,7 @@
 //! The least meeting of two regions.
 ghost use Rattle.std.specs.Prelude.{◌≡◌, ◌<◌, ◌≤◌, true, false, IfSome, IfNone};
-ghost use Rattle.plural_regions.specs.Bounds.{AllInside};
 ghost use Rattle.plural_regions.specs.Meeting.{IsLeastMeet, NeverMeet};
-ghost use Rattle.plural_regions.specs.Search.{IsFirstReaching, NeverReaches, IsLeastAt, NeverAt, IsCandidate};
+ghost use Rattle.plural_regions.specs.Search.{IsSearchable, IsFirstReaching, NeverReaches, IsLeastAt, NeverAt, IsCandidate};
 
 use crate::region::Region;
 use crate::residue::least_residue;
@@ -25,8 +24,8 @@ fn first_reaching(region: &Region, start: u32, count: u32, low: u32, q: u32) -> 
 /// The least meeting of instance `k` of `r`.
 fn meet_at(r: &Region, q1: u32, s: &Region, q2: u32, same_task: bool, k: u32) -> Option<Meet>
     requires below { k < q1 }
-    requires first_words { AllInside r.now q1 1048576 }
-    requires second_words { AllInside s.now q2 1048576 }
+    requires first { IsSearchable r.now q1 }
+    requires second { IsSearchable s.now q2 }
     ensures found { IfSome result (λ m. (m.k ≡ k) × IsLeastAt r.now q1 s.now q2 same_task k m.l m.a) }
     ensures none { IfNone result (NeverAt r.now q1 s.now q2 same_task k) }
 {
@@ -41,10 +40,8 @@ fn meet_at(r: &Region, q1: u32, s: &Region, q2: u32, same_task: bool, k: u32) ->
 ///
 /// The condition is that of `meet`.
 pub fn meet_by_scan(r: &Region, q1: u32, s: &Region, q2: u32, same_task: bool) -> Option<Meet>
-    requires first_quota { q1 ≤ 16384 }
-    requires second_quota { q2 ≤ 16384 }
-    requires first_words { AllInside r.now q1 1048576 }
-    requires second_words { AllInside s.now q2 1048576 }
+    requires first { IsSearchable r.now q1 }
+    requires second { IsSearchable s.now q2 }
     ensures found { IfSome result (λ m. IsLeastMeet r.now q1 s.now q2 same_task m.k m.l m.a) }
     ensures none { IfNone result (NeverMeet r.now q1 s.now q2 same_task) }
 {
@@ -59,10 +56,8 @@ pub fn meet_by_scan(r: &Region, q1: u32, s: &Region, q2: u32, same_task: bool) -
 
 /// The first instance of `r` that can meet one of `s`, a region of another task.
 fn candidate_apart(r: &Region, q1: u32, s: &Region, q2: u32) -> Option<u32>
-    requires first_quota { q1 ≤ 16384 }
-    requires second_quota { q2 ≤ 16384 }
-    requires first_words { AllInside r.now q1 1048576 }
-    requires second_words { AllInside s.now q2 1048576 }
+    requires first { IsSearchable r.now q1 }
+    requires second { IsSearchable s.now q2 }
     ensures found { IfSome result (λ k. IsCandidate r.now q1 s.now q2 false k) }
     ensures none { IfNone result (NeverMeet r.now q1 s.now q2 false) }
 {
@@ -88,10 +83,8 @@ fn candidate_apart(r: &Region, q1: u32, s: &Region, q2: u32) -> Option<u32>
 /// The first instance of `r` that can meet one of `s`, if a scan isn't needed: the regions are of different tasks,
 /// or of one task and have one stride, so that only the distance of two instances counts.
 fn candidate(r: &Region, q1: u32, s: &Region, q2: u32, same_task: bool) -> Option<u32>
-    requires first_quota { q1 ≤ 16384 }
-    requires second_quota { q2 ≤ 16384 }
-    requires first_words { AllInside r.now q1 1048576 }
-    requires second_words { AllInside s.now q2 1048576 }
+    requires first { IsSearchable r.now q1 }
+    requires second { IsSearchable s.now q2 }
     requires even { same_task ≡ true → r.now.stride ≡ s.now.stride }
     ensures found { IfSome result (λ k. IsCandidate r.now q1 s.now q2 same_task k) }
     ensures none { IfNone result (NeverMeet r.now q1 s.now q2 same_task) }
@@ -111,10 +104,8 @@ fn candidate(r: &Region, q1: u32, s: &Region, q2: u32, same_task: bool) -> Optio
 /// The quotas are at most 16,384, and all words of these instances are below 1,048,576. All instances are gone over
 /// only for regions of one task with different strides.
 pub fn meet(r: &Region, q1: u32, s: &Region, q2: u32, same_task: bool) -> Option<Meet>
-    requires first_quota { q1 ≤ 16384 }
-    requires second_quota { q2 ≤ 16384 }
-    requires first_words { AllInside r.now q1 1048576 }
-    requires second_words { AllInside s.now q2 1048576 }
+    requires first { IsSearchable r.now q1 }
+    requires second { IsSearchable s.now q2 }
     ensures found { IfSome result (λ m. IsLeastMeet r.now q1 s.now q2 same_task m.k m.l m.a) }
     ensures none { IfNone result (NeverMeet r.now q1 s.now q2 same_task) }
 {

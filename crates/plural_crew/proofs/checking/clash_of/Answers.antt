@@ -4,22 +4,22 @@ use Rattle.plural_regions.specs.declared.region.Region.{Region}
 use Rattle.plural_map.specs.Value.{TaskValue}
 use Rattle.plural_crew.specs.Clashes.{regions_of, quota_of}
 use Rattle.plural_crew.specs.Search.{IsLeastOf, SomeMeet}
-use Rattle.plural_crew.proofs.ClashLemmas.{regions_at, quota_at, words_inside, clash_least}
+use Rattle.plural_crew.proofs.ClashLemmas.{regions_at, quota_at, searchable, clash_least}
 use Rattle.plural_crew.proofs.checking.clash_of.Goals as goal
 
--- The call of `some_meet` has what its clause `first_words` requires.
-pub some_meet-requires-clause-first_words : goal.some_meet-requires-clause-first_words
-some_meet-requires-clause-first_words c =
+-- The call of `some_meet` has what its clause `first` requires.
+pub some_meet-requires-clause-first : goal.some_meet-requires-clause-first
+some_meet-requires-clause-first c =
     let tasks = c.tasks-tasks.ensures.value in
     let at = subst (λ (xs : List TaskValue). c.index-tasks-t.result ≡ get_or xs c.args.t c.index-tasks-t.result) tasks c.index-tasks-t.is in
-    rw (c.regions.ensures, c.quota.ensures) (words_inside c.args.map.now c.tasks-tasks.ensures.limits c.args.t c.index-tasks-t.result (let l = c.requires.within in let o = c.requires.ordered in omega arith) at)
+    rw (c.regions.ensures, c.quota.ensures) (searchable c.args.map.now c.tasks-tasks.ensures.limits c.args.t c.index-tasks-t.result (let l = c.requires.within in let o = c.requires.ordered in omega arith) at)
 
--- The call of `some_meet` has what its clause `second_words` requires.
-pub some_meet-requires-clause-second_words : goal.some_meet-requires-clause-second_words
-some_meet-requires-clause-second_words c =
+-- The call of `some_meet` has what its clause `second` requires.
+pub some_meet-requires-clause-second : goal.some_meet-requires-clause-second
+some_meet-requires-clause-second c =
     let tasks = c.tasks-tasks.ensures.value in
     let at = subst (λ (xs : List TaskValue). c.index-tasks-u.result ≡ get_or xs c.args.u c.index-tasks-u.result) tasks c.index-tasks-u.is in
-    rw (c.regions-2.ensures, c.quota-2.ensures) (words_inside c.args.map.now c.tasks-tasks.ensures.limits c.args.u c.index-tasks-u.result c.requires.within at)
+    rw (c.regions-2.ensures, c.quota-2.ensures) (searchable c.args.map.now c.tasks-tasks.ensures.limits c.args.u c.index-tasks-u.result c.requires.within at)
 
 -- The answer meets the contract.
 pub returns : goal.returns

@@ -1,7 +1,7 @@
 use Rattle.std.proofs.Common.{List, sym, subst, arith}
 use Rattle.std.proofs.lemmas.List.{take_all}
 use Rattle.plural_regions.specs.declared.region.Region.{Region}
-use Rattle.plural_regions.specs.Bounds.{AllInside}
+use Rattle.plural_regions.specs.Search.{IsSearchable}
 use Rattle.plural_crew.specs.Search.{IsLeastOf, MeetWriting, MeetsSome}
 use Rattle.plural_crew.proofs.LeastLemmas.{least_none, least_more}
 use Rattle.plural_crew.proofs.least.meets_some.Goals as goal
@@ -10,9 +10,9 @@ use Rattle.plural_crew.proofs.least.meets_some.Goals as goal
 pub loop-s-init : goal.loop-s-init
 loop-s-init c = least_none (λ s. MeetWriting c.args.r.now c.args.q1 s c.args.q2 c.args.same_task) c.args.regions.now
 
--- The call of `meet_writing` has what its clause `second_words` requires.
-pub meet_writing-requires-clause-second_words : goal.meet_writing-requires-clause-second_words
-meet_writing-requires-clause-second_words c = subst (λ (s : Region). AllInside s c.args.q2 1048576) (sym c.s-item.is) (c.requires.second_words c.loop-s.s-index c.s-item.result c.loop-s-test.true)
+-- The call of `meet_writing` has what its clause `second` requires.
+pub meet_writing-requires-clause-second : goal.meet_writing-requires-clause-second
+meet_writing-requires-clause-second c = subst (λ (s : Region). IsSearchable s c.args.q2) (sym c.s-item.is) (c.requires.second c.loop-s.s-index c.s-item.result c.loop-s-test.true)
 
 -- A turn of `loop-s` keeps its invariant.
 pub loop-s-preserved : goal.loop-s-preserved

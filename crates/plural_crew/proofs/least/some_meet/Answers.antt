@@ -1,7 +1,7 @@
 use Rattle.std.proofs.Common.{List, sym, subst, arith}
 use Rattle.std.proofs.lemmas.List.{take_all}
 use Rattle.plural_regions.specs.declared.region.Region.{Region}
-use Rattle.plural_regions.specs.Bounds.{AllInside}
+use Rattle.plural_regions.specs.Search.{IsSearchable}
 use Rattle.plural_crew.specs.Search.{IsLeastOf, MeetsSome, SomeMeet}
 use Rattle.plural_crew.proofs.LeastLemmas.{least_none, least_more}
 use Rattle.plural_crew.proofs.least.some_meet.Goals as goal
@@ -10,9 +10,9 @@ use Rattle.plural_crew.proofs.least.some_meet.Goals as goal
 pub loop-r-init : goal.loop-r-init
 loop-r-init c = least_none (λ r. MeetsSome r c.args.q1 c.args.seconds.now c.args.q2 c.args.same_task) c.args.firsts.now
 
--- The call of `meets_some` has what its clause `first_words` requires.
-pub meets_some-requires-clause-first_words : goal.meets_some-requires-clause-first_words
-meets_some-requires-clause-first_words c = subst (λ (r : Region). AllInside r c.args.q1 1048576) (sym c.r-item.is) (c.requires.first_words c.loop-r.r-index c.r-item.result c.loop-r-test.true)
+-- The call of `meets_some` has what its clause `first` requires.
+pub meets_some-requires-clause-first : goal.meets_some-requires-clause-first
+meets_some-requires-clause-first c = subst (λ (r : Region). IsSearchable r c.args.q1) (sym c.r-item.is) (c.requires.first c.loop-r.r-index c.r-item.result c.loop-r-test.true)
 
 -- A turn of `loop-r` keeps its invariant.
 pub loop-r-preserved : goal.loop-r-preserved

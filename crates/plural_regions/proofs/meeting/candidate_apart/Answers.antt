@@ -17,7 +17,7 @@ returns-then-q1-low-clause-none c = apart_none_late c.args.r.now c.args.s.now c.
 -- The call of `least_residue` has what its clause `b_limit` requires.
 pub least_residue-requires-clause-b_limit : goal.least_residue-requires-clause-b_limit
 least_residue-requires-clause-b_limit c =
-    let e = inside_end c.args.r.now c.in_ok-low.low 1048576 (c.requires.first_words c.in_ok-low.low c.if-q1-low.false) in
+    let e = inside_end c.args.r.now c.in_ok-low.low 1048576 (c.requires.first.inside c.in_ok-low.low c.if-q1-low.false) in
     omega arith
 
 -- The answer at `in_err-steps` meets the clause `none`.

@@ -6,14 +6,14 @@ use Rattle.plural_regions.proofs.meeting.meet_at.Goals.{then-same_task, else-sam
 -- The value of `start` stays in its type.
 pub overflow_cast-start : goal.overflow_cast-start
 overflow_cast-start c =
-    let e = inside_end c.args.r.now c.args.k 1048576 (c.requires.first_words c.args.k c.requires.below) in
+    let e = inside_end c.args.r.now c.args.k 1048576 (c.requires.first.inside c.args.k c.requires.below) in
     record { fits = omega arith }
 
 -- The value of `start-2` stays in its type.
 pub overflow_cast-start-2 : goal.overflow_cast-start-2
 overflow_cast-start-2 c =
     let below = c.in_ok-l.ensures.found.below in
-    let e = inside_end c.args.s.now c.in_ok-l.l 1048576 (c.requires.second_words c.in_ok-l.l below) in
+    let e = inside_end c.args.s.now c.in_ok-l.l 1048576 (c.requires.second.inside c.in_ok-l.l below) in
     record { fits = omega arith }
 
 -- The answer meets the clause `found`.
