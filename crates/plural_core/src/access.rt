@@ -1,12 +1,11 @@
 //! Loads and stores under the guard.
-ghost use Rattle.std.specs.Prelude.{◌≡◌, ℕ, ◌≤◌, ◌<◌, ◌/◌, ◌%◌, [], true, slice_index};
-ghost use Rattle.plural_regions.specs.Rights.{may_read, may_write};
+ghost use Rattle.std.specs.Prelude.{◌≡◌, ◌<◌, ◌/◌, ◌%◌, [], slice_index};
 ghost use Rattle.plural_base.specs.Told.{Foresees};
 ghost use Rattle.plural_core.specs.Act.{Read, Write};
 ghost use Rattle.plural_core.specs.Turn.{does, place_of};
 ghost use Rattle.plural_core.specs.Progress.{live, counted};
 ghost use Rattle.plural_core.specs.Recent.{IsRecent};
-ghost use Rattle.plural_core.specs.Port.{Makes};
+ghost use Rattle.plural_core.specs.Port.{IsReady, Makes};
 
 use crate::execute::next;
 use crate::guard::{Recent, may_read, may_write};
@@ -46,9 +45,7 @@ pub(crate) fn read<P: DataPort>(
 ) -> Next
     requires zero { slice_index registers.old 0 ≡ 0 }
     requires recent { IsRecent regions.now at.k recent.old }
-    requires sound { P.is_sound port.old }
-    requires lawful { (a : ℕ) → may_read regions.now at.k a ≡ true → (P.told port.old).lawful a ≡ true }
-    requires loads { (P.counts port.old).reads ≤ at.count }
+    requires ready { IsReady P.told P.counts P.is_sound regions.now at.k at.count port.old }
     requires room { at.count < 100000000 }
     ensures state { counted (live at registers.old) result registers.new
         ≡ (does (place_of [] regions.now (live at registers.old)) (live at registers.old).state (P.told port.old).words
@@ -87,11 +84,8 @@ pub(crate) fn write<P: DataPort>(
 ) -> Next
     requires zero { slice_index registers.now 0 ≡ 0 }
     requires recent { IsRecent regions.now at.k recent.old }
-    requires sound { P.is_sound port.old }
-    requires lawful { (a : ℕ) → may_read regions.now at.k a ≡ true → (P.told port.old).lawful a ≡ true }
-    requires loads { (P.counts port.old).reads ≤ at.count }
+    requires ready { IsReady P.told P.counts P.is_sound regions.now at.k at.count port.old }
     requires room { at.count < 100000000 }
-    requires stores { (P.counts port.old).writes ≤ at.count }
     requires expected { Foresees (P.told port.old).expects
         (does (place_of [] regions.now (live at registers.now)) (live at registers.now).state (P.told port.old).words
         (Write store.address store.width store.value)).stores }

@@ -64,10 +64,10 @@ fn finish(at: &mut Progress, registers: &[u32; 32]) -> Turn
 pub(crate) fn turn_by<P: DataPort>(
     at: &mut Progress,
     registers: &mut [u32; 32],
+    recent: &mut Recent,
     code: &Code,
     flat: &[FlatInstr],
     regions: &[Region],
-    recent: &mut Recent,
     port: &mut P,
 ) -> Turn
     requires zero { slice_index registers.old 0 ≡ 0 }
@@ -180,10 +180,10 @@ impl Hart {
         let turn = turn_by(
             at,
             registers,
+            &mut recent,
             code,
             code.laid_out(),
             regions,
-            &mut recent,
             port,
         );
         if let Turn::Over(end) = turn {

@@ -38,10 +38,10 @@ pub fn run<P: DataPort>(hart: &mut Hart, code: &Code, regions: &[Region], port: 
         match turn_by(
             &mut at,
             &mut registers,
+            &mut recent,
             code,
             flat,
             regions,
-            &mut recent,
             port,
         ) {
             Turn::Going => {}

@@ -1,13 +1,12 @@
 //! One instruction, by its mnemonic.
-ghost use Rattle.std.specs.Prelude.{◌≡◌, ℕ, ◌≤◌, ◌<◌, ◌-◌, ◌/◌, ◌%◌, [], true, slice_index, map};
-ghost use Rattle.plural_regions.specs.Rights.{may_read};
+ghost use Rattle.std.specs.Prelude.{◌≡◌, ◌<◌, ◌-◌, ◌/◌, ◌%◌, [], slice_index, map};
 ghost use Rattle.plural_base.specs.Told.{Foresees};
 ghost use Rattle.plural_isa.specs.FlatInstrs.{flat_of};
 ghost use Rattle.plural_core.specs.Turn.{does, place_of, turn_of};
 ghost use Rattle.plural_core.specs.Execution.{effect_of};
 ghost use Rattle.plural_core.specs.Progress.{live, counted};
 ghost use Rattle.plural_core.specs.Recent.{IsRecent};
-ghost use Rattle.plural_core.specs.Port.{Makes};
+ghost use Rattle.plural_core.specs.Port.{IsReady, Makes};
 
 use crate::access::{Load, Store, read, write};
 use crate::arithmetic::{
@@ -35,10 +34,7 @@ fn perform<P: DataPort>(
 ) -> Next
     requires zero { slice_index registers.old 0 ≡ 0 }
     requires recent { IsRecent regions.now at.k recent.old }
-    requires sound { P.is_sound port.old }
-    requires lawful { (a : ℕ) → may_read regions.now at.k a ≡ true → (P.told port.old).lawful a ≡ true }
-    requires loads { (P.counts port.old).reads ≤ at.count }
-    requires stores { (P.counts port.old).writes ≤ at.count }
+    requires ready { IsReady P.told P.counts P.is_sound regions.now at.k at.count port.old }
     requires room { at.count < 100000000 }
     requires expected { Foresees (P.told port.old).expects
         (does (place_of [] regions.now (live at registers.old)) (live at registers.old).state (P.told port.old).words
@@ -223,10 +219,7 @@ pub(crate) fn step<P: DataPort>(
     requires zero { slice_index registers.old 0 ≡ 0 }
     requires flat { flat.now ≡ map flat_of code.now }
     requires recent { IsRecent regions.now at.k recent.old }
-    requires sound { P.is_sound port.old }
-    requires lawful { (a : ℕ) → may_read regions.now at.k a ≡ true → (P.told port.old).lawful a ≡ true }
-    requires loads { (P.counts port.old).reads ≤ at.count }
-    requires stores { (P.counts port.old).writes ≤ at.count }
+    requires ready { IsReady P.told P.counts P.is_sound regions.now at.k at.count port.old }
     requires room { at.count < 100000000 }
     requires expected { Foresees (P.told port.old).expects
         (turn_of code.now regions.now (live at registers.old) (P.told port.old).words).stores }

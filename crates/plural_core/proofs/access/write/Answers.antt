@@ -10,8 +10,8 @@ load-requires g c =
     let a = c.args.store.address / 4 in
     let allowed : may_write c.args.regions.now c.args.at.k a ≡ true = cc in
     record {
-      sound = c.requires.sound;
-      lawful = c.requires.lawful a (may_read_from_write c.args.regions.now c.args.at.k a allowed);
+      sound = c.requires.ready.sound;
+      lawful = c.requires.ready.lawful a (may_read_from_write c.args.regions.now c.args.at.k a allowed);
       room = search rules;
     }
 
@@ -20,7 +20,7 @@ pub store-requires-clause-within : goal.store-requires-clause-within
 store-requires-clause-within g c =
     let a = c.args.store.address / 4 in
     let allowed : may_write c.args.regions.now c.args.at.k a ≡ true = cc in
-    let within = g.met.P.DataPort.within c.args.port.now a (c.requires.lawful a (may_read_from_write c.args.regions.now c.args.at.k a allowed)) in
+    let within = g.met.P.DataPort.within c.args.port.now a (c.requires.ready.lawful a (may_read_from_write c.args.regions.now c.args.at.k a allowed)) in
     elim c.match-width.branch [
       | in-Word w ↦ rw w.port-is within
       | in_default w ↦ rw (w.port-is, w.load.ensures.told) within

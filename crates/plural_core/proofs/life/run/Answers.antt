@@ -102,10 +102,9 @@ returns-in-Over-clause-state g c =
     let i = c.loop-end.invariant in
     let P = g.P.DataPort in
     let core = live c.loop-end.at c.loop-end.registers in
-    let p = place_of c.args.code.now c.args.regions.now core in
     let ends = ap (λ o. core_of c.turn_by.new.at c.turn_by.new.registers (end_of o)) (sym c.in-Over.is) ∙ c.turn_by.ensures.state in
     let over = sym (ap (λ (h : Core). h.state.over) ends) in
-    let l = last P.told P.counts P.stands_for P.keeps P.is_sound g.met.P.DataPort.keeps_both c.args.port.now c.loop-end.port c.turn_by.new.port core.budget p core.state i.made.0 _ c.in-Over.end refl i.room over i.made.1 c.turn_by.ensures.port i.made.2 in
+    let l = last P.told P.counts P.stands_for P.keeps P.is_sound g.met.P.DataPort.keeps_both c.args.port.now c.loop-end.port c.turn_by.new.port core.budget (place_of c.args.code.now c.args.regions.now core) core.state i.made.0 _ c.in-Over.end refl i.room over i.made.1 c.turn_by.ensures.port i.made.2 in
     c.ended.ensures ∙ core_is (core_of c.turn_by.new.at c.turn_by.new.registers (Some c.in-Over.end)) _ _ _ (ap (λ (h : Core). h.state) ends ∙ sym l.1) (ap (λ (h : Core). h.k) ends ∙ i.k) (ap (λ (h : Core). h.budget) ends ∙ i.budget)
 
 -- The answer at `in-Over` meets the clause `port`.
@@ -114,10 +113,9 @@ returns-in-Over-clause-port g c =
     let i = c.loop-end.invariant in
     let P = g.P.DataPort in
     let core = live c.loop-end.at c.loop-end.registers in
-    let p = place_of c.args.code.now c.args.regions.now core in
     let ends = ap (λ o. core_of c.turn_by.new.at c.turn_by.new.registers (end_of o)) (sym c.in-Over.is) ∙ c.turn_by.ensures.state in
     let over = sym (ap (λ (h : Core). h.state.over) ends) in
-    (last P.told P.counts P.stands_for P.keeps P.is_sound g.met.P.DataPort.keeps_both c.args.port.now c.loop-end.port c.turn_by.new.port core.budget p core.state i.made.0 _ c.in-Over.end refl i.room over i.made.1 c.turn_by.ensures.port i.made.2).0
+    (last P.told P.counts P.stands_for P.keeps P.is_sound g.met.P.DataPort.keeps_both c.args.port.now c.loop-end.port c.turn_by.new.port core.budget (place_of c.args.code.now c.args.regions.now core) core.state i.made.0 _ c.in-Over.end refl i.room over i.made.1 c.turn_by.ensures.port i.made.2).0
 
 -- The answer at `in-Over` meets the clause `words`.
 pub returns-in-Over-clause-words : goal.returns-in-Over-clause-words
@@ -125,8 +123,7 @@ returns-in-Over-clause-words g c =
     let i = c.loop-end.invariant in
     let P = g.P.DataPort in
     let core = live c.loop-end.at c.loop-end.registers in
-    let p = place_of c.args.code.now c.args.regions.now core in
     let ends = ap (λ o. core_of c.turn_by.new.at c.turn_by.new.registers (end_of o)) (sym c.in-Over.is) ∙ c.turn_by.ensures.state in
     let over = sym (ap (λ (h : Core). h.state.over) ends) in
-    let made = (last P.told P.counts P.stands_for P.keeps P.is_sound g.met.P.DataPort.keeps_both c.args.port.now c.loop-end.port c.turn_by.new.port core.budget p core.state i.made.0 _ c.in-Over.end refl i.room over i.made.1 c.turn_by.ensures.port i.made.2).0 in
+    let made = (last P.told P.counts P.stands_for P.keeps P.is_sound g.met.P.DataPort.keeps_both c.args.port.now c.loop-end.port c.turn_by.new.port core.budget (place_of c.args.code.now c.args.regions.now core) core.state i.made.0 _ c.in-Over.end refl i.room over i.made.1 c.turn_by.ensures.port i.made.2).0 in
     ap (λ (t : Told). length t.words) made.stored ∙ words_kept (c.args.hart.now.budget - c.args.hart.now.state.count) (place_of c.args.code.now c.args.regions.now c.args.hart.now) c.args.hart.now.state (P.told c.args.port.now).words

@@ -17,7 +17,7 @@ returns-in-Beq-clause-port g c =
     rw (effect_by m.Beq c.args.instr c.args.registers.now c.args.at.pc c.in-Beq.is)
     (quiet P.told P.counts P.stands_for P.keeps P.is_sound c.args.port.now _
     (branch_quiet (place_of [] c.args.regions.now core) core.state (P.told c.args.port.now).words c.args.registers.now c.args.at.pc _ c.args.instr.imm)
-    (g.met.P.DataPort.keeps_none c.args.port.now) c.requires.sound)
+    (g.met.P.DataPort.keeps_none c.args.port.now) c.requires.ready.sound)
 
 -- The answer at `in-Bne` meets the clause `port`.
 pub returns-in-Bne-clause-port : goal.returns-in-Bne-clause-port
@@ -27,7 +27,7 @@ returns-in-Bne-clause-port g c =
     rw (effect_by m.Bne c.args.instr c.args.registers.now c.args.at.pc c.in-Bne.is)
     (quiet P.told P.counts P.stands_for P.keeps P.is_sound c.args.port.now _
     (branch_quiet (place_of [] c.args.regions.now core) core.state (P.told c.args.port.now).words c.args.registers.now c.args.at.pc _ c.args.instr.imm)
-    (g.met.P.DataPort.keeps_none c.args.port.now) c.requires.sound)
+    (g.met.P.DataPort.keeps_none c.args.port.now) c.requires.ready.sound)
 
 -- The answer at `in-Blt` meets the clause `port`.
 pub returns-in-Blt-clause-port : goal.returns-in-Blt-clause-port
@@ -37,7 +37,7 @@ returns-in-Blt-clause-port g c =
     rw (effect_by m.Blt c.args.instr c.args.registers.now c.args.at.pc c.in-Blt.is)
     (quiet P.told P.counts P.stands_for P.keeps P.is_sound c.args.port.now _
     (branch_quiet (place_of [] c.args.regions.now core) core.state (P.told c.args.port.now).words c.args.registers.now c.args.at.pc _ c.args.instr.imm)
-    (g.met.P.DataPort.keeps_none c.args.port.now) c.requires.sound)
+    (g.met.P.DataPort.keeps_none c.args.port.now) c.requires.ready.sound)
 
 -- The answer at `in-Bge` meets the clause `port`.
 pub returns-in-Bge-clause-port : goal.returns-in-Bge-clause-port
@@ -47,7 +47,7 @@ returns-in-Bge-clause-port g c =
     rw (effect_by m.Bge c.args.instr c.args.registers.now c.args.at.pc c.in-Bge.is)
     (quiet P.told P.counts P.stands_for P.keeps P.is_sound c.args.port.now _
     (branch_quiet (place_of [] c.args.regions.now core) core.state (P.told c.args.port.now).words c.args.registers.now c.args.at.pc _ c.args.instr.imm)
-    (g.met.P.DataPort.keeps_none c.args.port.now) c.requires.sound)
+    (g.met.P.DataPort.keeps_none c.args.port.now) c.requires.ready.sound)
 
 -- The answer at `in-Bltu` meets the clause `port`.
 pub returns-in-Bltu-clause-port : goal.returns-in-Bltu-clause-port
@@ -57,7 +57,7 @@ returns-in-Bltu-clause-port g c =
     rw (effect_by m.Bltu c.args.instr c.args.registers.now c.args.at.pc c.in-Bltu.is)
     (quiet P.told P.counts P.stands_for P.keeps P.is_sound c.args.port.now _
     (branch_quiet (place_of [] c.args.regions.now core) core.state (P.told c.args.port.now).words c.args.registers.now c.args.at.pc _ c.args.instr.imm)
-    (g.met.P.DataPort.keeps_none c.args.port.now) c.requires.sound)
+    (g.met.P.DataPort.keeps_none c.args.port.now) c.requires.ready.sound)
 
 -- The answer at `in-Bgeu` meets the clause `port`.
 pub returns-in-Bgeu-clause-port : goal.returns-in-Bgeu-clause-port
@@ -67,7 +67,7 @@ returns-in-Bgeu-clause-port g c =
     rw (effect_by m.Bgeu c.args.instr c.args.registers.now c.args.at.pc c.in-Bgeu.is)
     (quiet P.told P.counts P.stands_for P.keeps P.is_sound c.args.port.now _
     (branch_quiet (place_of [] c.args.regions.now core) core.state (P.told c.args.port.now).words c.args.registers.now c.args.at.pc _ c.args.instr.imm)
-    (g.met.P.DataPort.keeps_none c.args.port.now) c.requires.sound)
+    (g.met.P.DataPort.keeps_none c.args.port.now) c.requires.ready.sound)
 
 -- The answer at `in-Lb` meets the clause `state`.
 pub returns-in-Lb-clause-state : goal.returns-in-Lb-clause-state
@@ -166,4 +166,4 @@ returns-in-Slti-clause-port g c =
     let P = g.P.DataPort in
     rw (effect_by m.Slti c.args.instr c.args.registers.now c.args.at.pc c.in-Slti.is)
     (quiet P.told P.counts P.stands_for P.keeps P.is_sound c.args.port.now _ (record { memory = refl; loads = refl; stores = refl })
-    (g.met.P.DataPort.keeps_none c.args.port.now) c.requires.sound)
+    (g.met.P.DataPort.keeps_none c.args.port.now) c.requires.ready.sound)
