@@ -1,13 +1,22 @@
 -- What a cache over a bus keeps, and when the two may be used together. (This project's own.)
-use Rattle.std.specs.Prelude.{ℕ, ◌≡◌, ◌+◌, ◌*◌, ◌%◌, ◌^◌, ◌≤◌, List, length}
+use Rattle.std.specs.Prelude.{ℕ, ◌≡◌, ◌+◌, ◌*◌, ◌%◌, ◌^◌, ◌<◌, ◌≤◌, List, length}
 use Rattle.plural_map.specs.Value.{MapValue}
 use Rattle.plural_base.specs.Told.{Told, Counted}
 use Rattle.plural_cache.specs.Cache.{CacheValue, StandsFor, Agrees}
+use Rattle.plural_serial.specs.Program.{ProgramValue}
 
 -- The cache has the sets and ways of the map.
 pub record IsShaped (m : MapValue) (c : CacheValue) : Type 0 where
   pub sets : c.sets ≡ m.sets
   pub ways : c.ways ≡ m.ways
+
+-- Task t of a program may run over this cache and this memory: the task is one of the map, the cache has the
+-- map's sets and ways, and the memory has the map's words, which are whole lines of eight.
+pub record MayRun (p : ProgramValue) (t : ℕ) (c : CacheValue) (memory : List ℕ) : Type 0 where
+  pub shape : IsShaped p.map c
+  pub words : length memory ≡ p.map.words
+  pub whole : p.map.words % 8 ≡ 0
+  pub task : t < length p.map.tasks
 
 -- From a cache c over a bus with these counts to a later one d over a bus with those: the bus's reads less eight times
 -- the cache's misses stay, and so do the bus's writes less the cache's stores, and the sets and the ways.

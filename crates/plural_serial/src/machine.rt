@@ -1,7 +1,7 @@
-ghost use Rattle.std.specs.Prelude.{◌≡◌, ◌+◌, ◌-◌, ◌%◌, ◌<◌, ◌≤◌, [], ◌++◌, length, map, Some, None, IfOk, OnOk, All};
+ghost use Rattle.std.specs.Prelude.{◌≡◌, ◌+◌, ◌-◌, ◌<◌, ◌≤◌, [], ◌++◌, length, map, Some, None, IfOk, OnOk, All};
 ghost use Rattle.plural_map.specs.Decisions.{HasPredecessors};
 ghost use Rattle.plural_serial.specs.Program.{IsMemory, task_at, life_of};
-ghost use Rattle.plural_serial.specs.Cached.{IsShaped};
+ghost use Rattle.plural_serial.specs.Cached.{IsShaped, MayRun};
 ghost use Rattle.plural_serial.specs.Serial.{end_of, outcome_of, instances};
 ghost use Rattle.plural_serial.specs.Answer.{record_of, IsTaskRun, IsSerial};
 ghost use Rattle.plural_serial.specs.declared.record_.Record.{Record};
@@ -22,10 +22,7 @@ use std::alloc::Global;
 /// Runs instance k of task t over the memory, by way of the cache, which is emptied first, and answers its record.
 #[inline(never)]
 fn run_instance(cache: &mut Cache, flat: &mut Flat, program: &Program, t: u32, k: u32) -> Record
-    requires shape { IsShaped program.now.map cache.old }
-    requires words { length flat.old.words ≡ program.now.map.words }
-    requires whole { program.now.map.words % 8 ≡ 0 }
-    requires t { t < length program.now.map.tasks }
+    requires may_run { MayRun program.now t cache.old flat.old.words }
     requires k { k < (task_at program.now t).quota }
     ensures memory { flat.new.words ≡ (life_of program.now t k flat.old.words).memory }
     ensures words { length flat.new.words ≡ length flat.old.words }
@@ -64,10 +61,7 @@ fn run_task(
     program: &Program,
     t: u32,
 ) -> Result<Outcome, Memory>
-    requires shape { IsShaped program.now.map cache.old }
-    requires words { length flat.old.words ≡ program.now.map.words }
-    requires whole { program.now.map.words % 8 ≡ 0 }
-    requires t { t < length program.now.map.tasks }
+    requires may_run { MayRun program.now t cache.old flat.old.words }
     ensures memory { OnOk result (flat.new.words ≡
         (instances program.now t (task_at program.now t).quota flat.old.words).memory) }
     ensures words { length flat.new.words ≡ length flat.old.words }
@@ -96,10 +90,7 @@ fn task_outcome(
     program: &Program,
     t: u32,
 ) -> Result<Outcome, Memory>
-    requires shape { IsShaped program.now.map cache.old }
-    requires words { length flat.old.words ≡ program.now.map.words }
-    requires whole { program.now.map.words % 8 ≡ 0 }
-    requires t { t < length program.now.map.tasks }
+    requires may_run { MayRun program.now t cache.old flat.old.words }
     requires decidable { HasPredecessors (task_at program.now t) outcomes.now }
     ensures all { IfOk result (λ o.
         IsTaskRun program.now t outcomes.now flat.old.words flat.new.words records.old.items records.new.items o) }

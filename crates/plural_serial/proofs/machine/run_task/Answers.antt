@@ -9,7 +9,7 @@ use Rattle.plural_serial.proofs.machine.run_task.Goals as goal
 -- The invariant of `loop-k` holds at its start.
 pub loop-k-init : goal.loop-k-init
 unfolding instances
-loop-k-init c = record { shape = c.requires.shape; words = refl; memory = refl; records = sym (append-nil c.args.records.now.items); outcome = refl }
+loop-k-init c = record { shape = c.requires.may_run.shape; words = refl; memory = refl; records = sym (append-nil c.args.records.now.items); outcome = refl }
 
 -- A turn of `loop-k` keeps its invariant.
 pub loop-k-preserved : goal.loop-k-preserved

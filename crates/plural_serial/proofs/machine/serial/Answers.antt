@@ -12,10 +12,16 @@ use Rattle.plural_serial.specs.declared.record_.Record.{Record}
 use Rattle.plural_serial.proofs.RunTasks.{records_within}
 use Rattle.plural_serial.proofs.machine.serial.Goals as goal
 
--- The call of `task_outcome` has what its clause `t` requires.
-pub task_outcome-requires-clause-t : goal.task_outcome-requires-clause-t
-task_outcome-requires-clause-t c =
-    next_within c.args.program.now.map _ c.loop-t.t-index (subst (λ (m : MapValue). IsMap m) c.map-map.ensures c.order-t-items.ensures.limits) c.loop-t.invariant.order (omega arith)
+-- The call of `task_outcome` has what its clause `may_run` requires.
+pub task_outcome-requires-clause-may_run : goal.task_outcome-requires-clause-may_run
+task_outcome-requires-clause-may_run c =
+    let limits = subst (λ (m : MapValue). IsMap m) c.map-map.ensures c.order-t-items.ensures.limits in
+    record {
+      shape = c.loop-t.invariant.shape;
+      words = c.loop-t.invariant.words;
+      whole = limits.words_whole;
+      task = next_within c.args.program.now.map _ c.loop-t.t-index limits c.loop-t.invariant.order (omega arith);
+    }
 
 -- The call of `task_outcome` has what its clause `decidable` requires.
 pub task_outcome-requires-clause-decidable : goal.task_outcome-requires-clause-decidable
