@@ -55,9 +55,9 @@ fn judge_results(answer: &Answer, log: &Log, last: &[u32]) -> Verdict
 /// The verdict by the order of the entries and what follows, if the rules on records and tickets hold.
 fn judge_order(
     alloc: Global,
-    answer: &Answer,
     map: &Map,
     log: &Log,
+    answer: &Answer,
     last: &[u32],
 ) -> Result<Verdict, Memory>
     requires own { All (λ (e : Entry). e.rec.t < length map.now.tasks) log.now.entries }
@@ -106,7 +106,7 @@ fn judge(
     if let Some(at) = ticket_fault(alloc, log.entries())? {
         return Ok(no(2, at));
     }
-    judge_order(alloc, answer, map, log, last)
+    judge_order(alloc, map, log, answer, last)
 }
 
 /// Whether a log of a run of the program from this opening image, which left the memory `last`, is legal.
