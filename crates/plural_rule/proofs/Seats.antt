@@ -137,7 +137,8 @@ without_same c xs = let e : times c (filter (λ d. not (eqb d c)) xs) + times c 
 without_else : (c x : ℕ) (xs : List ℕ) → c ≢ x → times x (filter (λ d. not (eqb d c)) xs) ≡ times x xs
 without_else c x xs n = let e : times x (filter (λ d. not (eqb d c)) xs) + 0 ≡ times x xs = ap (λ b. times x (filter (λ d. not (eqb d c)) xs) + cond b (times c xs) 0) (sym (ne_eqb c x n)) ∙ times_without c x xs in omega arith
 
-larger_most : (xs ys : List ℕ) (t n : ℕ) → get_or xs t 0 ≤ n → get_or ys t 0 ≤ n → get_or (larger_each xs ys) t 0 ≤ n
+-- What neither of two lists passes, the larger of each two numbers doesn't pass.
+pub larger_most : (xs ys : List ℕ) (t n : ℕ) → get_or xs t 0 ≤ n → get_or ys t 0 ≤ n → get_or (larger_each xs ys) t 0 ≤ n
 larger_most [] ys t n h i = i
 larger_most (x ∷ xs) [] t n h i = h
 larger_most (x ∷ xs) (y ∷ ys) zero n h i = max-le h i
@@ -146,7 +147,8 @@ larger_most (x ∷ xs) (y ∷ ys) (suc t) n h i = larger_most xs ys t n h i
 none_there : (t n : ℕ) → get_or {A = ℕ} [] t 0 ≤ n
 none_there t n = omega arith
 
-larger_least : (xs ys : List ℕ) (t : ℕ) → (get_or xs t 0 ≤ get_or (larger_each xs ys) t 0) × (get_or ys t 0 ≤ get_or (larger_each xs ys) t 0)
+-- It is no less than either.
+pub larger_least : (xs ys : List ℕ) (t : ℕ) → (get_or xs t 0 ≤ get_or (larger_each xs ys) t 0) × (get_or ys t 0 ≤ get_or (larger_each xs ys) t 0)
 larger_least [] ys t = (none_there t (get_or ys t 0), omega arith)
 larger_least (x ∷ xs) [] t = (omega arith, none_there t (get_or (x ∷ xs) t 0))
 larger_least (x ∷ xs) (y ∷ ys) zero = (le-max_left x y, le-max_right x y)
