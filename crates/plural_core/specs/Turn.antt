@@ -124,6 +124,10 @@ pub record Core : Type 0 where
 abbrev pub place_of : List ℕ → List Region → Core → Place
 place_of code regions c = record { code = code; regions = regions; k = c.k; budget = c.budget }
 
+-- What an effect does, under the guard, for a core over these regions and this memory.
+abbrev pub does_at : List Region → Core → List ℕ → Act → Step
+does_at regions c m effect = does (place_of [] regions c) c.state m effect
+
 -- The turn of a core over this code, these regions and this memory.
 abbrev pub turn_of : List ℕ → List Region → Core → List ℕ → Step
 turn_of code regions c m = turn (place_of code regions c) c.state m

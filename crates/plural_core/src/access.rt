@@ -2,7 +2,7 @@
 ghost use Rattle.std.specs.Prelude.{◌≡◌, ◌<◌, ◌/◌, ◌%◌, [], slice_index};
 ghost use Rattle.plural_base.specs.Told.{Foresees};
 ghost use Rattle.plural_core.specs.Act.{Read, Write};
-ghost use Rattle.plural_core.specs.Turn.{does, place_of};
+ghost use Rattle.plural_core.specs.Turn.{does_at};
 ghost use Rattle.plural_core.specs.Progress.{live, counted};
 ghost use Rattle.plural_core.specs.Recent.{IsRecent};
 ghost use Rattle.plural_core.specs.Port.{IsReady, Makes};
@@ -48,12 +48,12 @@ pub(crate) fn read<P: DataPort>(
     requires ready { IsReady P.told P.counts P.is_sound regions.now at.k at.count port.old }
     requires room { at.count < 100000000 }
     ensures state { counted (live at registers.old) result registers.new
-        ≡ (does (place_of [] regions.now (live at registers.old)) (live at registers.old).state (P.told port.old).words
+        ≡ (does_at regions.now (live at registers.old) (P.told port.old).words
         (Read load.address load.width load.sign load.rd)).state }
     ensures zero { slice_index registers.new 0 ≡ 0 }
     ensures recent { IsRecent regions.now at.k recent.new }
     ensures port { Makes P.told P.counts P.stands_for P.keeps P.is_sound port.old port.new
-        (does (place_of [] regions.now (live at registers.old)) (live at registers.old).state (P.told port.old).words
+        (does_at regions.now (live at registers.old) (P.told port.old).words
         (Read load.address load.width load.sign load.rd)) }
 {
     let Load {
@@ -87,14 +87,14 @@ pub(crate) fn write<P: DataPort>(
     requires ready { IsReady P.told P.counts P.is_sound regions.now at.k at.count port.old }
     requires room { at.count < 100000000 }
     requires expected { Foresees (P.told port.old).expects
-        (does (place_of [] regions.now (live at registers.now)) (live at registers.now).state (P.told port.old).words
+        (does_at regions.now (live at registers.now) (P.told port.old).words
         (Write store.address store.width store.value)).stores }
     ensures state { counted (live at registers.now) result registers.now
-        ≡ (does (place_of [] regions.now (live at registers.now)) (live at registers.now).state (P.told port.old).words
+        ≡ (does_at regions.now (live at registers.now) (P.told port.old).words
         (Write store.address store.width store.value)).state }
     ensures recent { IsRecent regions.now at.k recent.new }
     ensures port { Makes P.told P.counts P.stands_for P.keeps P.is_sound port.old port.new
-        (does (place_of [] regions.now (live at registers.now)) (live at registers.now).state (P.told port.old).words
+        (does_at regions.now (live at registers.now) (P.told port.old).words
         (Write store.address store.width store.value)) }
 {
     let Store {

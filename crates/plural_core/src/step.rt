@@ -2,7 +2,7 @@
 ghost use Rattle.std.specs.Prelude.{◌≡◌, ◌<◌, ◌-◌, ◌/◌, ◌%◌, [], slice_index, map};
 ghost use Rattle.plural_base.specs.Told.{Foresees};
 ghost use Rattle.plural_isa.specs.FlatInstrs.{flat_of};
-ghost use Rattle.plural_core.specs.Turn.{does, place_of, turn_of};
+ghost use Rattle.plural_core.specs.Turn.{does_at, turn_of};
 ghost use Rattle.plural_core.specs.Execution.{effect_of};
 ghost use Rattle.plural_core.specs.Progress.{live, counted};
 ghost use Rattle.plural_core.specs.Recent.{IsRecent};
@@ -37,16 +37,15 @@ fn perform<P: DataPort>(
     requires ready { IsReady P.told P.counts P.is_sound regions.now at.k at.count port.old }
     requires room { at.count < 100000000 }
     requires expected { Foresees (P.told port.old).expects
-        (does (place_of [] regions.now (live at registers.old)) (live at registers.old).state (P.told port.old).words
+        (does_at regions.now (live at registers.old) (P.told port.old).words
         (effect_of instr registers.old at.pc)).stores }
     ensures state { counted (live at registers.old) result registers.new
-        ≡ (does (place_of [] regions.now (live at registers.old)) (live at registers.old).state (P.told port.old).words
+        ≡ (does_at regions.now (live at registers.old) (P.told port.old).words
         (effect_of instr registers.old at.pc)).state }
     ensures zero { slice_index registers.new 0 ≡ 0 }
     ensures recent { IsRecent regions.now at.k recent.new }
     ensures port { Makes P.told P.counts P.stands_for P.keeps P.is_sound port.old port.new
-        (does (place_of [] regions.now (live at registers.old)) (live at registers.old).state (P.told port.old).words
-        (effect_of instr registers.old at.pc)) }
+        (does_at regions.now (live at registers.old) (P.told port.old).words (effect_of instr registers.old at.pc)) }
 {
     let FlatInstr { rd, rs1, rs2, .. } = instr;
     let imm = word(instr.imm);

@@ -1,5 +1,5 @@
 //! The least meeting of two regions.
-ghost use Rattle.std.specs.Prelude.{◌≡◌, ◌<◌, ◌≤◌, true, false, IfSome, IfNone};
+ghost use Rattle.std.specs.Prelude.{◌≡◌, ◌<◌, true, false, IfSome, IfNone};
 ghost use Rattle.plural_regions.specs.Meeting.{IsLeastMeet, NeverMeet};
 ghost use Rattle.plural_regions.specs.Search.{IsSearchable, IsFirstReaching, NeverReaches, IsLeastAt, NeverAt, IsCandidate};
 
