@@ -68,4 +68,12 @@ impl Program {
     {
         self.entries[t as usize]
     }
+
+    /// The entries of all tasks, by their numbers. That they are whole is one of the things that hold of every program.
+    pub fn entries(&self) -> &[u32]
+        ensures value { result.now ≡ self.now.entries }
+        ensures program { IsProgram self.now }
+    {
+        self.entries.as_slice()
+    }
 }
