@@ -34,16 +34,20 @@ pub record IsDone (c : ClosedSeen) (t k : ℕ) : Type 0 where
   pub inst : IsInstance c.opening.program t k
   pub done : 0 < (says c).done t k
 
+-- A field of the record of instance (t, k), by its place.
+abbrev pub word_of : ClosedSeen → (t k f : ℕ) → ℕ
+word_of c t k f = (says c).field t k f
+
 -- The record words of instance (t, k).
 abbrev pub words_in : ClosedSeen → (t k : ℕ) → RecordWords
 words_in c t k = record {
-  «end» = (says c).field t k 0;
-  instructions = (says c).field t k 1;
-  loads = (says c).field t k 2;
-  misses = (says c).field t k 3;
-  stores = (says c).field t k 4;
-  start = (says c).field t k 5;
-  core = (says c).field t k 6;
+  «end» = word_of c t k 0;
+  instructions = word_of c t k 1;
+  loads = word_of c t k 2;
+  misses = word_of c t k 3;
+  stores = word_of c t k 4;
+  start = word_of c t k 5;
+  core = word_of c t k 6;
   done = (says c).done t k;
 }
 
@@ -79,6 +83,11 @@ pub record FinishedValue : Type 0 where
   pub outcomes : List Outcome
   pub entries : List Entry
   pub closed : ClosedSeen
+
+-- One with these parts.
+abbrev pub finished_of : (cores : ℕ) → (image : List ℕ) → List Outcome → List Entry → ClosedSeen → FinishedValue
+finished_of cores image outcomes entries closed =
+    record { cores = cores; image = image; outcomes = outcomes; entries = entries; closed = closed }
 
 -- All of it is as the closed words of a whole run say.
 pub record IsFinished (f : FinishedValue) : Type 0 where

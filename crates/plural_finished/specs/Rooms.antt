@@ -10,6 +10,14 @@ pub record RoomSeen : Type 0 where
   pub tasks : ℕ
   pub instances : ℕ
 
--- As much as a program can want.
+-- Room for so many of each.
+abbrev pub room_of : (words tasks instances : ℕ) → RoomSeen
+room_of words tasks instances = record { words = words; tasks = tasks; instances = instances }
+
+-- How many instances the tasks of a program have.
+abbrev pub instance_count : ProgramValue → ℕ
+instance_count p = instances_before p (task_count p)
+
+-- As much room as a machine of a program can want.
 abbrev pub room_for : ProgramValue → RoomSeen
-room_for p = record { words = p.map.words; tasks = task_count p; instances = instances_before p (task_count p) }
+room_for p = room_of p.map.words (task_count p) (instance_count p)

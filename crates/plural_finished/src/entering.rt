@@ -1,12 +1,12 @@
 //! The entries of done instances, read off the closed words.
-ghost use Rattle.std.specs.Prelude.{◌≡◌, ◌+◌, ◌≤◌, ◌<◌, ◌/◌, ◌^◌, [], vec_capacity, slice_index};
+ghost use Rattle.std.specs.Prelude.{◌≡◌, ◌+◌, ◌≤◌, ◌<◌, ◌/◌, ◌^◌, [], vec_capacity};
 ghost use Rattle.std.specs.List.Sorted.{IsPermutation, IsNonDecreasingBy};
 ghost use Rattle.plural_trace.specs.RecordWords.{end_of_word};
 ghost use Rattle.plural_trace.specs.declared.entry.Entry.{Entry};
 ghost use Rattle.plural_rule.specs.Opening.{IsInstance, task_count, quota_of};
-ghost use Rattle.plural_rule.specs.Layout.{field_at, instances_before};
 ghost use Rattle.plural_words.specs.Fields.{number_of};
-ghost use Rattle.plural_finished.specs.Finishing.{IsClosedRun, IsDone, entry_in, AreEntries};
+ghost use Rattle.plural_finished.specs.Rooms.{instance_count};
+ghost use Rattle.plural_finished.specs.Finishing.{IsClosedRun, IsDone, word_of, entry_in, AreEntries};
 ghost use Rattle.plural_finished.specs.Entering.{HasEntered};
 
 use plural_core::End;
@@ -33,8 +33,8 @@ fn end_of(word: u64) -> End
 // A number of the record of instance k of task t.
 fn number(closed: &Closed, t: u32, k: u32, field: Field) -> u32
     requires instance { IsInstance closed.now.opening.program t k }
-    requires low { slice_index closed.now.words (field_at closed.now.opening.program t k (number_of field)) < 2 ^ 32 }
-    ensures { result ≡ slice_index closed.now.words (field_at closed.now.opening.program t k (number_of field)) }
+    requires low { word_of closed.now t k (number_of field) < 2 ^ 32 }
+    ensures { result ≡ word_of closed.now t k (number_of field) }
 {
     closed.record(t, k, field) as u32
 }
@@ -66,7 +66,7 @@ fn entry(closed: &Closed, t: u32, k: u32) -> Entry
 fn enter(closed: &Closed, entries: &mut Vec<Entry>, t: u32, k: u32)
     requires run { IsClosedRun closed.now }
     requires instance { IsInstance closed.now.opening.program t k }
-    requires room { instances_before closed.now.opening.program (task_count closed.now.opening.program) ≤ vec_capacity entries.old }
+    requires room { instance_count closed.now.opening.program ≤ vec_capacity entries.old }
     requires entered { HasEntered closed.now t k entries.old.items }
     ensures room { vec_capacity entries.new ≡ vec_capacity entries.old }
     ensures entered { HasEntered closed.now t (k + 1) entries.new.items }
@@ -81,7 +81,7 @@ fn enter_task(closed: &Closed, entries: &mut Vec<Entry>, t: u32, quota: u32)
     requires run { IsClosedRun closed.now }
     requires task { t < task_count closed.now.opening.program }
     requires quota { quota ≡ quota_of closed.now.opening.program t }
-    requires room { instances_before closed.now.opening.program (task_count closed.now.opening.program) ≤ vec_capacity entries.old }
+    requires room { instance_count closed.now.opening.program ≤ vec_capacity entries.old }
     requires entered { HasEntered closed.now t 0 entries.old.items }
     ensures room { vec_capacity entries.new ≡ vec_capacity entries.old }
     ensures entered { HasEntered closed.now (t + 1) 0 entries.new.items }
@@ -95,7 +95,7 @@ fn enter_task(closed: &Closed, entries: &mut Vec<Entry>, t: u32, quota: u32)
 fn enter_tasks(closed: &Closed, program: &Program, entries: &mut Vec<Entry>)
     requires run { IsClosedRun closed.now }
     requires program { program.now ≡ closed.now.opening.program }
-    requires room { instances_before program.now (task_count program.now) ≤ vec_capacity entries.old }
+    requires room { instance_count program.now ≤ vec_capacity entries.old }
     requires empty { entries.old.items ≡ [] }
     ensures { HasEntered closed.now (task_count program.now) 0 entries.new.items }
 {
@@ -116,7 +116,7 @@ fn sort(entries: &mut Vec<Entry>)
 pub(crate) fn fill_entries(closed: &Closed, program: &Program, entries: &mut Vec<Entry>)
     requires run { IsClosedRun closed.now }
     requires program { program.now ≡ closed.now.opening.program }
-    requires room { instances_before program.now (task_count program.now) ≤ vec_capacity entries.old }
+    requires room { instance_count program.now ≤ vec_capacity entries.old }
     requires empty { entries.old.items ≡ [] }
     ensures { AreEntries closed.now entries.new.items }
 {

@@ -1,7 +1,6 @@
 //! A finished machine.
 ghost use Rattle.std.specs.Prelude.{◌≡◌, map, Some};
-ghost use Rattle.plural_serial.specs.Serial.{serial_of};
-ghost use Rattle.plural_trace.specs.Verdicts.{expected_of, IsLegal};
+ghost use Rattle.plural_finished.specs.Laws.{serial_in, HasLegalLog};
 
 use crate::entering::fill_entries;
 use crate::filling::{fill_image, fill_outcomes};
@@ -12,8 +11,9 @@ use plural_trace::Entry;
 use plural_words::Closed;
 use std::marker::Model;
 
-/// What a machine leaves once all cores have left: the number of its cores, its image, the outcome of each task, an entry
-/// for each instance that ran, and its closed words. It can't be copied, and closed words of a whole run alone make one.
+/// What a machine leaves once all cores have left: the number of its cores, its image, the outcome of each task, an
+/// entry for each instance that ran, and its closed words. It can't be copied, and nothing but the closed words of a
+/// whole run makes one.
 #[derive(Drop)]
 pub struct Finished {
     closed: Closed,
@@ -24,18 +24,18 @@ pub struct Finished {
 }
 
 impl Model for Finished {
-    ghost use Rattle.plural_finished.specs.Finishing.{FinishedValue, IsFinished};
+    ghost use Rattle.plural_finished.specs.Finishing.{FinishedValue, finished_of, IsFinished};
 
     ghost Value = { FinishedValue };
 
-    ghost view = { λ f. record { cores = f.cores; image = f.image.items; outcomes = f.outcomes.items; entries = f.entries.items; closed = f.closed } };
+    ghost view = { λ f. finished_of f.cores f.image.items f.outcomes.items f.entries.items f.closed };
 
-    ghost invariant = { λ f. IsFinished (record { cores = f.cores; image = f.image.items; outcomes = f.outcomes.items; entries = f.entries.items; closed = f.closed }) };
+    ghost invariant = { λ f. IsFinished (finished_of f.cores f.image.items f.outcomes.items f.entries.items f.closed) };
 }
 
 impl Finished {
     ghost use Rattle.plural_finished.specs.Rooms.{room_for};
-    ghost use Rattle.plural_finished.specs.Finishing.{IsClosedRun, IsFinished, log_of};
+    ghost use Rattle.plural_finished.specs.Finishing.{IsClosedRun, IsFinished};
 
     /// What the closed words of a whole run of this program say, in room that was taken for it. Takes no memory.
     pub fn of(closed: Closed, program: &Program, room: Room) -> Finished
@@ -75,7 +75,7 @@ impl Finished {
     /// The last memory: that of the serial run.
     pub fn image(&self) -> &[u32]
         ensures value { result.now ≡ self.now.image }
-        ensures serial { result.now ≡ (serial_of self.now.closed.opening.program self.now.closed.opening.image).memory }
+        ensures serial { result.now ≡ (serial_in self.now.closed).memory }
     {
         self.image.as_slice()
     }
@@ -83,16 +83,16 @@ impl Finished {
     /// The outcome of each task, by its number: those of the serial run.
     pub fn outcomes(&self) -> &[Outcome]
         ensures value { result.now ≡ self.now.outcomes }
-        ensures serial { map (λ o. Some o) result.now ≡ (serial_of self.now.closed.opening.program self.now.closed.opening.image).outcomes }
+        ensures serial { map (λ o. Some o) result.now ≡ (serial_in self.now.closed).outcomes }
     {
         self.outcomes.as_slice()
     }
 
-    /// The entries of the instances that ran, in the order of their starts. With the cores and the outcomes they are a log
-    /// that is legal.
+    /// The entries of the instances that ran, in the order of their starts. With the cores and the outcomes they are a
+    /// legal log.
     pub fn entries(&self) -> &[Entry]
         ensures value { result.now ≡ self.now.entries }
-        ensures legal { IsLegal (expected_of self.now.closed.opening.program self.now.closed.opening.image) (log_of self.now) self.now.image }
+        ensures legal { HasLegalLog self.now }
     {
         self.entries.as_slice()
     }

@@ -1,8 +1,6 @@
 //! The memory for what a finished machine has, taken before the machine runs.
 ghost use Rattle.std.specs.Prelude.{◌≡◌, IfOk};
-ghost use Rattle.plural_rule.specs.Opening.{task_count};
-ghost use Rattle.plural_rule.specs.Layout.{instances_before};
-ghost use Rattle.plural_finished.specs.Rooms.{room_for};
+ghost use Rattle.plural_finished.specs.Rooms.{room_for, instance_count};
 
 use plural_base::Memory;
 use plural_map::Outcome;
@@ -22,11 +20,11 @@ pub struct Room {
 
 impl Model for Room {
     ghost use Rattle.std.specs.Prelude.{◌≡◌, [], vec_capacity};
-    ghost use Rattle.plural_finished.specs.Rooms.{RoomSeen};
+    ghost use Rattle.plural_finished.specs.Rooms.{RoomSeen, room_of};
 
     ghost Value = { RoomSeen };
 
-    ghost view = { λ r. record { words = vec_capacity r.image; tasks = vec_capacity r.outcomes; instances = vec_capacity r.entries } };
+    ghost view = { λ r. room_of (vec_capacity r.image) (vec_capacity r.outcomes) (vec_capacity r.entries) };
 
     ghost invariant = { λ r. (r.image.items ≡ []) × (r.outcomes.items ≡ []) × (r.entries.items ≡ []) };
 }
@@ -48,7 +46,7 @@ impl Room {
 
 // How many instances all tasks have.
 fn instances(program: &Program) -> usize
-    ensures { result ≡ instances_before program.now (task_count program.now) }
+    ensures { result ≡ instance_count program.now }
 {
     let mut count = 0;
     for task in program.map().tasks() {
