@@ -1,8 +1,8 @@
 //! Accesses over a small bus, against rows worked by hand.
-ghost use Rattle.std.specs.Prelude.{◌≡◌, vec_len};
+ghost use Rattle.std.specs.Prelude.{◌≡◌, ◌≤◌, vec_len, length, None};
 ghost use Rattle.plural_cache.specs.Cache.{IsFresh};
 
-use plural_cache::{Bus, Cache, Counts};
+use plural_cache::{Buffered, Bus, Cache, Counts, StoreBuffer};
 use std::test::Fail;
 
 /// A memory whose words are all lawful, and which tells no stores.
@@ -109,5 +109,63 @@ fn a_store_goes_through_and_fills_no_line(rt: HostRuntime) -> Result<(), Fail> {
     cache.empty();
     let again = cache.load(&mut bus, 9);
     assert_eq!(rt; (again, bus.reads, cache.counts().misses), (7, 16, 1));
+    Ok(())
+}
+
+/// Writes 10 and more to the first words.
+fn write_words<B: Bus>(bus: &mut B, n: u32)
+    requires sound { B.is_sound bus.old }
+    requires within { n ≤ length (B.told bus.old).words }
+    requires untold { (B.told bus.old).expects ≡ None }
+    requires few { n ≤ 100 }
+    requires room { (B.counts bus.old).writes ≡ 0 }
+    ensures keeps { B.keeps bus.old bus.new }
+{
+    for i in 0..n {
+        bus.write(i, 10 + i);
+    }
+}
+
+#[test]
+fn a_full_buffer_passes_on_its_oldest_store(rt: HostRuntime) -> Result<(), Fail> {
+    let mut bus = Words {
+        words: [0; 17].to_vec(rt.alloc())?,
+        reads: 0,
+        writes: 0,
+    };
+    let mut buffer = StoreBuffer::new();
+    let mut buffered = Buffered {
+        buffer: &mut buffer,
+        bus: &mut bus,
+    };
+    write_words(&mut buffered, 17);
+    assert_eq!(rt; (buffer.held(), bus.writes), (16, 1));
+    assert_eq!(rt; bus.words.first(), Some(&10));
+    assert_eq!(rt; bus.words.get(1), Some(&0));
+    Ok(())
+}
+
+#[test]
+fn a_read_finds_the_newest_store_and_drains_make_it_the_last(rt: HostRuntime) -> Result<(), Fail> {
+    let mut bus = Words {
+        words: [0; 8].to_vec(rt.alloc())?,
+        reads: 0,
+        writes: 0,
+    };
+    let mut buffer = StoreBuffer::new();
+    let mut buffered = Buffered {
+        buffer: &mut buffer,
+        bus: &mut bus,
+    };
+    buffered.write(3, 5);
+    buffered.write(3, 6);
+    let newest = buffered.read(3);
+    assert_eq!(rt; (newest, bus.reads, bus.writes), (6, 1, 0));
+    assert_eq!(rt; bus.words.get(3), Some(&0));
+    let first = buffer.drain(&mut bus);
+    let second = buffer.drain(&mut bus);
+    let third = buffer.drain(&mut bus);
+    assert_eq!(rt; (first, second, third), (true, true, false));
+    assert_eq!(rt; bus.words.get(3), Some(&6));
     Ok(())
 }
