@@ -1,2 +1,4 @@
 pub mod Sums
 pub mod Tries
+pub mod Turns
+pub mod CoreTurns

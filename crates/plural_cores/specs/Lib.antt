@@ -1,2 +1,4 @@
 pub mod Later
 pub mod Sweeps
+pub mod Works
+pub mod Cores

@@ -1,7 +1,7 @@
 /// What a core tells its surroundings: that an instance begins, and that it has ended.
 ///
-/// Its calls return, and tell the run nothing. A core calls `begin` after it has drawn the start ticket of instance k of
-/// task t and before the instance's first instruction, and `end` after its last store and before it draws the end
+/// Its calls return, and tell the run nothing. A core calls `begin` after it has drawn the start ticket of instance k
+/// of task t and before the instance's first instruction, and `end` after its last store and before it draws the end
 /// ticket.
 pub trait Gate {
     /// Instance k of task t begins on this core.

@@ -1,0 +1,5 @@
+use Rattle.plural_cores.proofs.CoreTurns.{turned_now}
+use Rattle.plural_cores.proofs.core_.Core.turn.Goals as goal
+
+pub returns : goal.returns
+returns g c = turned_now _ _ _ _ _ _ _ _ _ c.self.view_is c.in-Some.is c.turn.ensures

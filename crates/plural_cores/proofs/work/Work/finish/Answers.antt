@@ -1,0 +1,8 @@
+use Rattle.plural_cores.proofs.Turns.{owes_flag, settles_now}
+use Rattle.plural_cores.proofs.work.Work.finish.Goals as goal
+
+pub deliver-requires-clause-owes : goal.deliver-requires-clause-owes
+deliver-requires-clause-owes g c = owes_flag _ _ _ _ _ c.requires.work.nothing c.drain.ensures.fixed c.finish.ensures.seat
+
+pub returns : goal.returns
+returns g c = let e = c.deliver.ensures in settles_now _ _ _ _ _ _ _ _ _ c.requires.holds c.requires.work e.of c.drain.ensures.fixed c.finish.ensures.seat e.nothing e.kept c.drain.ensures.drained.running.shape
