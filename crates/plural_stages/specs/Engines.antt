@@ -16,8 +16,8 @@ use Rattle.plural_rule.specs.declared.view.Stage.TheVariants.{Free, Begun}
 use Rattle.plural_words.specs.Lent.{told_in}
 use Rattle.plural_words.specs.Seen.{SeatSeen}
 
--- An engine: its cache, the stores that wait in its buffer with the oldest first, its hart, and the start ticket of its
--- instance.
+-- An engine: its cache, the stores that wait in its buffer with the oldest first, its hart, and the start ticket of
+-- its instance.
 pub record EngineSeen : Type 0 where
   pub cache : CacheValue
   pub pairs : List (ℕ × ℕ)
@@ -33,8 +33,8 @@ abbrev pub all_turns_of : Opening → (t k : ℕ) → Step
 all_turns_of o t k = life_of o.program t k (start_at (world_in o) (t, k))
 
 -- The engine and the seat run instance (t, k), which has come this far: the hart is in its state; the cache stands for
--- its loads and has counted its stores, and what it has of the memory is what the instance has there; the seat has read
--- eight words for each miss; and its stores are those that the seat has made and those that wait, which come next. The
+-- its loads and has counted its stores, and what it has of the memory is what the instance has there; the seat has
+-- read eight words for each miss; and its stores are those that the seat has made and those that wait, which come next. The
 -- map is within its limits.
 pub record IsRunning (o : Opening) (t k : ℕ) (sofar : Step) (e : EngineSeen) (s : SeatSeen) : Type 0 where
   pub made : ℕ

@@ -23,8 +23,8 @@ fn empty(cache: &mut Cache, buffer: &mut StoreBuffer)
 }
 
 impl Engine {
-    /// Begins instance k of task t, which the seat was handed: draws its start ticket, empties cache and buffer, and sets
-    /// the hart to the instance's start.
+    /// Begins instance k of task t, which the seat was handed: draws its start ticket, empties cache and buffer, and
+    /// sets the hart to the instance's start.
     pub fn begin(
         &mut self,
         words: &Words,

@@ -26,7 +26,8 @@ impl Engine {
         ensures of { IsSeatOf words.now seat.new }
         ensures fixed { fixed_of seat.new ≡ fixed_of seat.old }
         ensures turned { MatchOption result
-            (IsGoing words.now.opening t k self.new seat.new × (self.new.core.state.count ≡ self.old.core.state.count + 1))
+            (IsGoing words.now.opening t k self.new seat.new
+            × (self.new.core.state.count ≡ self.old.core.state.count + 1))
             (λ end. IsOver words.now.opening t k end self.new seat.new) }
     {
         let task = program.task(t);
