@@ -1,0 +1,3 @@
+pub mod Outs
+pub mod CoreLists
+pub mod Staying

@@ -1,0 +1,4 @@
+pub mod Knowing
+pub mod Together
+pub mod Machines
+pub mod Drawn
