@@ -1,5 +1,12 @@
 pub mod OrderLemmas
 pub mod DeclarationOrder
+pub mod LeastNumbers
+pub mod FlagLemmas
+pub mod OrderSteps
+pub mod NumbersBelow
+pub mod WalkLemmas
+pub mod CycleLemmas
+pub mod CycleLaws
 pub mod Lookups
 pub mod OrderPlaces
 pub mod OrderCuts

@@ -25,7 +25,7 @@ other_name a b h = false_from_ne_true (bytes_eq a b) (λ e. h ((bytes_eq-Decides
 -- ---- the name of a task by its number
 
 -- The name of a number below the count is that of the task there.
-name_is : (tasks : List TaskValue) (t : ℕ) (d : TaskValue) → t < length tasks → name_at tasks t ≡ (get_or tasks t d).name
+pub name_is : (tasks : List TaskValue) (t : ℕ) (d : TaskValue) → t < length tasks → name_at tasks t ≡ (get_or tasks t d).name
 name_is [] t d l = absurd (omega arith)
 name_is (x ∷ xs) zero d l = refl
 name_is (x ∷ xs) (suc t) d l = name_is xs t d (omega arith)

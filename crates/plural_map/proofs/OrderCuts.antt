@@ -20,7 +20,8 @@ Distinct (x ∷ xs) = (is_among x xs ≡ false) × Distinct xs
 eqb_back : (x t : ℕ) → eqb x t ≡ false → eqb t x ≡ false
 eqb_back x t e = false_from_ne_true (eqb t x) (λ h. true≢false (sym (eq-eqb x t (sym (eqb-true t x h))) ∙ e))
 
-distinct_push : (xs : List ℕ) (t : ℕ) → Distinct xs → is_among t xs ≡ false → Distinct (xs ++ t ∷ [])
+-- One more number that isn't among them keeps it so.
+pub distinct_push : (xs : List ℕ) (t : ℕ) → Distinct xs → is_among t xs ≡ false → Distinct (xs ++ t ∷ [])
 distinct_push [] t d n = (refl, tt)
 distinct_push (x ∷ xs) t d n =
     let p = or_parts (eqb x t) (is_among t xs) n in

@@ -27,8 +27,8 @@ ready_task tasks done t r = by_task (slice_get tasks t) refl (and_parts (not (is
     by_task None e h = absurd cc
     by_task (Some task) e h = (task, e, h)
 
--- A number that is ready is that of a task.
-ready_within : (tasks : List TaskValue) (done : List ℕ) (t : ℕ) → is_ready tasks done t ≡ true → t < length tasks
+-- A number that is ready is below the count of tasks.
+pub ready_within : (tasks : List TaskValue) (done : List ℕ) (t : ℕ) → is_ready tasks done t ≡ true → t < length tasks
 ready_within tasks done t r = let h = ready_task tasks done t r in slice_get_within tasks t h.0 h.1
 
 -- The next number is ready.

@@ -72,11 +72,11 @@ pub order_long : (tasks : List TaskValue) → length (order_of tasks) ≤ length
 order_long tasks = let h = order_from_long (length tasks) tasks [] in omega (arith, h)
 
 -- 1 if a test passes.
-abbrev one_if : Bool → ℕ
+abbrev pub one_if : Bool → ℕ
 one_if b = cond b 1 0
 
 -- How many of the numbers below n are among a list.
-abbrev hits : ℕ → List ℕ → ℕ
+abbrev pub hits : ℕ → List ℕ → ℕ
 hits zero xs = 0
 hits (suc n) xs = hits n xs + one_if (is_among n xs)
 
@@ -100,7 +100,8 @@ hits_one (suc n) x xs = elim (cases_order x n) [
     none : (x n : ℕ) → n ≤ x → one_if (ltb x n) ≡ 0
     none x n l = ap one_if (le-ltb x n l)
 
-hits_few : (n : ℕ) (xs : List ℕ) → hits n xs ≤ length xs
+-- They are no more than the list is long.
+pub hits_few : (n : ℕ) (xs : List ℕ) → hits n xs ≤ length xs
 hits_few n [] = omega (arith, hits_none n)
 hits_few n (x ∷ xs) = let one = most (ltb x n) in omega (arith, hits_one n x xs, hits_few n xs, one)
   where
@@ -108,7 +109,8 @@ hits_few n (x ∷ xs) = let one = most (ltb x n) in omega (arith, hits_one n x x
     most true = omega arith
     most false = omega arith
 
-hits_all : (n : ℕ) (xs : List ℕ) → ((t : ℕ) → t < n → is_among t xs ≡ true) → hits n xs ≡ n
+-- All of them, if each is.
+pub hits_all : (n : ℕ) (xs : List ℕ) → ((t : ℕ) → t < n → is_among t xs ≡ true) → hits n xs ≡ n
 hits_all zero xs h = refl
 hits_all (suc n) xs h = omega (arith, hits_all n xs (λ t l. h t (omega arith)), ap one_if (h n (omega arith)))
 

@@ -9,3 +9,5 @@ pub mod Decisions
 pub mod Order
 pub mod Limits
 pub mod WholeOrder
+pub mod Cycle
+pub mod Flags

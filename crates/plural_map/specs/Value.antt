@@ -1,5 +1,5 @@
 -- A task and a map as contracts see them.
-use Rattle.std.specs.Prelude.{ℕ, Bool, false, List, [], ◌∷◌, ◌++◌, slice_index_or}
+use Rattle.std.specs.Prelude.{ℕ, Bool, true, false, List, [], ◌∷◌, ◌++◌, slice_index_or}
 use Rattle.plural_regions.specs.declared.region.Region.{Region}
 use Rattle.plural_map.specs.declared.outcome.Dep.{Dep}
 
@@ -52,3 +52,7 @@ with_dep dep t = record t { deps = t.deps ++ dep ∷ [] }
 -- A task with one more region.
 abbrev pub with_region : Region → TaskValue → TaskValue
 with_region region t = record t { regions = t.regions ++ region ∷ [] }
+
+-- A task that runs if one dependency is satisfied.
+abbrev pub with_some : TaskValue → TaskValue
+with_some t = record t { some = true }

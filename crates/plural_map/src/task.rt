@@ -1,5 +1,5 @@
 ghost use Rattle.std.specs.Prelude.{◌≡◌, ◌<◌, length};
-ghost use Rattle.plural_map.specs.Value.{with_dep, with_region};
+ghost use Rattle.plural_map.specs.Value.{with_dep, with_region, with_some};
 
 use crate::outcome::Dep;
 use arrayvec::ArrayVec;
@@ -115,6 +115,13 @@ impl Task {
         ensures { self.new ≡ with_dep dep self.old }
     {
         self.parts.deps.push(dep);
+    }
+
+    /// Makes one satisfied dependency enough for the task to run.
+    pub fn join_some(&mut self)
+        ensures { self.new ≡ with_some self.old }
+    {
+        self.parts.some = true;
     }
 
     /// Gives the task one more region.
