@@ -30,7 +30,8 @@ impl<B: Bus> Bus for Buffered<'_, B> {
         self.buffer.word(a, below)
     }
 
-    #[inline(always)]
+    // A call: inlined, it makes an instruction too large to be inlined into the loop over them.
+    #[inline(never)]
     fn write(&mut self, a: u32, v: u32) {
         self.buffer.make_room(self.bus);
         self.buffer.push(a, v);

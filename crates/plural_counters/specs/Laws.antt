@@ -128,8 +128,8 @@ OneViewReplaces V = (duties : V → List Duty) (views : List V) (id : ℕ) (v w 
     → get_elem? views id ≡ some v → duties v ≡ old ++ rest → duties w ≡ new ++ rest
     → Replaces (duties_of duties views) (duties_of duties (slice_set views id w)) old new
 
--- So it is for a view with two lists, of what it owes and of what it was told, that replaces one of its duties: what it
--- owes then in its place stands first, and what it is told stands first.
+-- So it is for a view with two lists, of what it owes and of what it was told, that replaces one of its duties: what
+-- it owes then in its place stands first, and what it is told stands first.
 abbrev pub OneDutyReplaces : Type 0 → Type 0
 OneDutyReplaces V = (duties : V → List Duty) (views : List V) (id : ℕ) (v w : V) (old : Duty)
     (new first rest : List Duty) (told : List (ℕ × Outcome)) → get_elem? views id ≡ some v

@@ -10,8 +10,8 @@ pub enum Duty {
     Count(u32, u32),
     /// All instances of this task are counted: its outcome is to be found from its flags.
     Close(u32),
-    /// The outcome of this task is to be told to its successors from this place on, by rising number; at that place the
-    /// bits of the dependency are marked already, or not.
+    /// The outcome of this task is to be told to its successors from this place on, by rising number; at that place
+    /// the bits of the dependency are marked already, or not.
     Tell(u32, Outcome, u32, bool),
     /// All dependencies of this task are counted: it is to be decided from its state.
     Decide(u32),

@@ -30,9 +30,9 @@ tickets_drawn (Got t k) = 0
 tickets_drawn (Begun t k start made reads) = 1
 tickets_drawn (Ended t k start end reads noted) = 2
 
--- The memory is that of the serial run; exactly the instances of the serial run are done, each in turn, with its record
--- and a core that there is; the clock is twice their number, and each ticket below it, and no other, was drawn once, by
--- one of them.
+-- The memory is that of the serial run; exactly the instances of the serial run are done, each in turn, with its
+-- record and a core that there is; the clock is twice their number, and each ticket below it, and no other, was drawn
+-- once, by one of them.
 pub record IsLast (o : Opening) (c : Content) : Type 0 where
   pub memory : (a : ℕ) → a < o.program.map.words
       → c.mem a ≡ slice_index (run (world_in o) (world_in o).image (world_in o).ran) a

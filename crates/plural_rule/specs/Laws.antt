@@ -33,7 +33,8 @@ use Rattle.plural_rule.specs.declared.view.View.{View}
 use Rattle.plural_rule.specs.declared.view.Stage.TheVariants.{Free, Got, Begun, Ended}
 use Rattle.plural_rule.specs.declared.view.Role.TheVariants.{Seat, Root}
 
--- What holds of every seat: of words that meet the rule, with the view v of core number `core` at a place of the views.
+-- What holds of every seat: of words that meet the rule, with the view v of core number `core` at a place of the
+-- views.
 abbrev pub OfSeat : (Opening → List ℕ → List View → ℕ → View → ℕ → Type 0) → Type 0
 OfSeat P = (o : Opening) (words : List ℕ) (views : List View) (id : ℕ) (v : View) (core : ℕ) → Kept o words views
     → get_elem? views id ≡ some v → v.role ≡ Seat core → P o words views id v core
@@ -234,8 +235,8 @@ JoinsSeat = (o : Opening) (words : List ℕ) (views : List View) (other : ℕ) (
 
 -- ---- the first words and the last
 
--- The first words of a program whose map has no clash, over an image of its length with words of 32 bits, meet the rule
--- with the root alone.
+-- The first words of a program whose map has no clash, over an image of its length with words of 32 bits, meet the
+-- rule with the root alone.
 abbrev pub OpensWords : Type 0
 OpensWords = (o : Opening) → IsOpening o.program o.image
     → ((a : ℕ) → a < o.program.map.words → slice_index o.image a < 2 ^ 32)

@@ -33,8 +33,8 @@ pub record IsViewOf (o : Opening) (v : View) : Type 0 where
   pub looks : length v.looks ≡ task_count o.program
   pub losses : length v.losses ≡ task_count o.program
 
--- The views of the root and of seats are of this opening, and a seat's core number is below that of cores. The root and
--- a spent view hold nothing, and a spent view has found nothing.
+-- The views of the root and of seats are of this opening, and a seat's core number is below that of cores. The root
+-- and a spent view hold nothing, and a spent view has found nothing.
 abbrev pub IsRole : Opening → View → Role → Type 0
 IsRole o v (Seat c) = IsViewOf o v × (c < o.cores)
 IsRole o v (Root outs) = IsViewOf o v × (v.stage ≡ Free)
@@ -155,8 +155,8 @@ abbrev pub IsNoted : Opening → Content → View → Type 0
 IsNoted o c v = (t k start end reads : ℕ) (noted : List (ℕ × ℕ)) (f x : ℕ) → IsInstance o.program t k
     → v.stage ≡ Ended t k start end reads noted → f < 7 → noted_of f noted ≡ Some x → c.field t k f ≡ x
 
--- The fields of a done instance are those of its record in the serial run, and its core is one of the cores. What views
--- noted stands there.
+-- The fields of a done instance are those of its record in the serial run, and its core is one of the cores. What
+-- views noted stands there.
 pub record RecordsAsRun (o : Opening) (c : Content) (views : List View) : Type 0 where
   pub own : (t k f : ℕ) → IsInstance o.program t k → 0 < c.done t k → f < 5
       → c.field t k f ≡ field_of (record_of o t k) 0 0 f
@@ -183,8 +183,8 @@ LivesAsRun o mem (Begun t k start made reads) = (a : ℕ) → a < o.program.map.
 LivesAsRun o mem (Ended t k start end reads noted) = (a : ℕ) → a < o.program.map.words → MayRead o t k a
     → mem a ≡ slice_index (value_at (world_in o) (t, k) (length (stores_of o t k))) a
 
--- A word of which no writer is under way has the value of its last done writer in the serial order, or the opening one.
--- Each view's instance under way lives as in the serial run.
+-- A word of which no writer is under way has the value of its last done writer in the serial order, or the opening
+-- one. Each view's instance under way lives as in the serial run.
 pub record ValuesAsRun (o : Opening) (c : Content) (views : List View) : Type 0 where
   pub rest : (a : ℕ) → a < o.program.map.words → NoWriter o views a
       → c.mem a ≡ value_now (world_in o) (is_done c.done) a

@@ -18,8 +18,8 @@ pub enum Stage {
     Got(u32, u32),
     /// It has begun it: the start ticket, how many stores it has made, and how many words of the memory it has read.
     Begun(u32, u32, u64, u64, u64),
-    /// It has ended it: the start and the end ticket, the words that it read, and what it noted so far, each a field of
-    /// the record with its value, the latest first.
+    /// It has ended it: the start and the end ticket, the words that it read, and what it noted so far, each a field
+    /// of the record with its value, the latest first.
     Ended(u32, u32, u64, u64, u64, LinkedList<(u32, u64)>),
 }
 

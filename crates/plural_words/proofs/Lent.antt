@@ -48,6 +48,7 @@ value_next o t k made a v rest e =
     ∙ (ap (λ (l : List (ℕ × ℕ)). sets first l) (take_next stores made (a, v) rest e)
     ∙ sets_append first (take made stores) ((a, v) ∷ []))
 
+-- After one store more the memory of the instance is the one before with that store.
 pub memory_next : (o : Opening) (s : Stage) (a v : ℕ) (rest : List (ℕ × ℕ)) → to_come o s ≡ (a, v) ∷ rest → memory_of o (one_store s) ≡ set (memory_of o s) a v
 memory_next o Free a v rest e = absurd (cc e)
 memory_next o (Got t k) a v rest e = absurd (cc e)

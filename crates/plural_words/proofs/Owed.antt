@@ -105,6 +105,7 @@ first_there d l = (0, omega arith, refl)
 pub outcome_first : (t : ℕ) (o : Outcome) (e : ℕ) (h : Bool) (l : List Duty) → outcome_told (Tell t o e h ∷ l) t ≡ o
 outcome_first t o e h l = ap (λ b. cond b o (outcome_told l t)) (eq-eqb t t refl)
 
+-- A task that is first told on is told next to the place that the duty says.
 pub place_first : (t : ℕ) (o : Outcome) (e : ℕ) (h : Bool) (l : List Duty) → place_told (Tell t o e h ∷ l) t ≡ e
 place_first t o e h l = ap (λ b. cond b e (place_told l t)) (eq-eqb t t refl)
 

@@ -39,12 +39,11 @@ none_in (x ∷ xs) e = absurd (omega arith)
 -- ---- a seat is split off
 
 -- The table allows it.
-pub split_allowed : (o : Opening) (id : ℕ) (v : View) (outs : List ℕ) (core named : ℕ) → core ≡ named → id ≡ 0 → v.role ≡ Root outs → times core outs ≡ 0 → core < o.cores
-    → Splits (Holds o) id v (root_after v named) (new_seat v named)
-split_allowed o id v outs core named same first role away low s kept at =
-    let P : ℕ → Type 0 = λ n. Kept o s.words (set s.views id (root_after v n) ++ new_seat v n ∷ []) in
+pub split_allowed : (o : Opening) (id : ℕ) (v : View) (outs : List ℕ) (core : ℕ) → id ≡ 0 → v.role ≡ Root outs → times core outs ≡ 0 → core < o.cores
+    → Splits (Holds o) id v (root_after v core) (new_seat v core)
+split_allowed o id v outs core first role away low s kept at =
     let Q : ℕ → Type 0 = λ j. get_elem? s.views j ≡ some v → Kept o s.words (set s.views j (root_after v core) ++ new_seat v core ∷ []) in
-    subst P same (subst Q (sym first) (λ e. splits_seat o s.words s.views v outs core kept e role away low) at)
+    subst Q (sym first) (λ e. splits_seat o s.words s.views v outs core kept e role away low) at
 
 -- ---- a seat comes back
 

@@ -1,5 +1,5 @@
 -- What the words say when they are closed. (This project's own.)
-use Rattle.std.specs.Prelude.{ℕ, ◌≡◌, List}
+use Rattle.std.specs.Prelude.{ℕ, ◌≡◌, List, []}
 use Rattle.std.specs.List.{Contains}
 use mathlib.Core.Option.{some}
 use lib.ListN.{get_elem?}
@@ -7,7 +7,8 @@ use Rattle.plural_map.specs.declared.outcome.Outcome.{Outcome}
 use Rattle.plural_rule.specs.Opening.{Opening}
 use Rattle.plural_rule.specs.Content.{content}
 use Rattle.plural_rule.specs.Kept.{Kept}
-use Rattle.plural_rule.specs.Last.{HasTold, IsLast}
+use Rattle.plural_rule.specs.Last.{KnowsWhole, HasTold, IsLast}
+use Rattle.plural_rule.specs.Stages.{outs_of}
 use Rattle.plural_rule.specs.declared.view.View.{View}
 
 -- Closed words: what they were opened with, the words, and what the root knew.
@@ -15,6 +16,14 @@ pub record ClosedSeen : Type 0 where
   pub opening : Opening
   pub words : List ℕ
   pub root : View
+
+-- One with these parts.
+abbrev pub closed_seen : Opening → (words : List ℕ) → (root : View) → ClosedSeen
+closed_seen o words root = record { opening = o; words = words; root = root }
+
+-- If no seat is out, and the root knows each task that it knows as armed as wholly handed out, it has told every task.
+abbrev pub HasToldIfAlone : Opening → (root : View) → Type 0
+HasToldIfAlone o v = outs_of v.role ≡ [] → KnowsWhole o v → HasTold o v
 
 -- The view has told task t.
 pub record HasToldTask (v : View) (t : ℕ) : Type 0 where

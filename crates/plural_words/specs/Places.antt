@@ -1,9 +1,10 @@
 -- Where a call finds a word. (This project's own.)
 use Rattle.std.specs.Prelude.{ℕ, ◌≡◌, ◌+◌, ◌*◌, ◌<◌, ◌≤◌, List, length, slice_get, Some}
+use Rattle.atomic_table.specs.Seated.{TableId}
 use Rattle.plural_serial.specs.Program.{ProgramValue, task_at}
 use Rattle.plural_order.specs.Sums.{sum_below}
-use Rattle.plural_rule.specs.Opening.{IsInstance, task_count, quota_of}
-use Rattle.plural_rule.specs.Layout.{field_at}
+use Rattle.plural_rule.specs.Opening.{Opening, IsInstance, task_count, quota_of}
+use Rattle.plural_rule.specs.Layout.{field_at, word_count}
 use Rattle.plural_rule.specs.declared.view.Stage.{Stage}
 use Rattle.plural_rule.specs.declared.view.Stage.TheVariants.{Free, Got, Begun, Ended}
 use Rattle.plural_words.specs.declared.place.Place.{Place}
@@ -29,6 +30,11 @@ pub record ArePlaces (p : ProgramValue) (n : ℕ) (places : List Place) (after :
 pub record HasPlaces (p : ProgramValue) (list : List Place) (first : ℕ) : Type 0 where
   pub small : IsSmall p
   pub places : ArePlaces p (task_count p) list first
+
+-- A table of so many words and slots, and what the calls keep beside it, are those of an opening.
+abbrev pub IsLaidOut : Opening → TableId → List Place → (first memory cores : ℕ) → Type 0
+IsLaidOut o table places first memory cores = HasPlaces o.program places first
+    × (table.words ≡ word_count o.program) × (memory ≡ o.program.map.words) × (cores ≡ o.cores) × (table.slots ≡ 0)
 
 -- Where the record of the instance at this stage begins. (0 if it has none.)
 abbrev pub record_at : ProgramValue → Stage → ℕ

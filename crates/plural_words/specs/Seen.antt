@@ -1,12 +1,17 @@
 -- What contracts see of the words and of their tokens. (This project's own.)
-use Rattle.std.specs.Prelude.{ℕ, ◌≡◌, []}
+use Rattle.std.specs.Prelude.{ℕ, ◌≡◌, List, []}
 use Rattle.atomic_table.specs.Seated.{TableId}
 use Rattle.plural_map.specs.Value.{map_value}
+use Rattle.plural_serial.specs.Program.{ProgramValue}
 use Rattle.plural_rule.specs.Opening.{Opening}
 use Rattle.plural_rule.specs.Rule.{IsViewOf}
 use Rattle.plural_rule.specs.Stages.{outs_of}
 use Rattle.plural_rule.specs.declared.view.View.{View}
 use Rattle.plural_rule.specs.declared.view.Role.TheVariants as role
+
+-- A program over an image, for this many cores.
+abbrev pub opening_of : ProgramValue → (image : List ℕ) → (cores : ℕ) → Opening
+opening_of p image cores = record { program = p; image = image; cores = cores }
 
 -- The words: which table they stand in, and what they were opened with.
 pub record WordsSeen : Type 0 where

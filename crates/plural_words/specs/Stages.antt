@@ -1,5 +1,5 @@
 -- What a call asks of the stage of a seat. (This project's own.)
-use Rattle.std.specs.Prelude.{ℕ, ◌≡◌, ◌*◌, Bool, false, List, [], length, drop}
+use Rattle.std.specs.Prelude.{ℕ, ◌≡◌, ◌*◌, Bool, true, false, List, [], length, drop, slice_index}
 use Rattle.plural_order.specs.World.{value_at, start_at}
 use Rattle.plural_rule.specs.Opening.{Opening, Runs, world_in, stores_of, record_of}
 use Rattle.plural_rule.specs.Laws.{HasNoted}
@@ -41,8 +41,12 @@ may_read o (Got t k) a = false
 may_read o (Begun t k start made reads) a = (world_in o).reads (t, k) a
 may_read o (Ended t k start end reads noted) a = false
 
--- Instance i of the serial run is under way since this start ticket, and has made no store and read no word. Its memory
--- is the one at its start in the serial run, and has the map's words.
+-- If it may read word a, this is what the word is in its memory.
+abbrev pub IsRead : Opening → Stage → (a found : ℕ) → Type 0
+IsRead o s a found = may_read o s a ≡ true → found ≡ slice_index (memory_of o s) a
+
+-- Instance i of the serial run is under way since this start ticket, and has made no store and read no word. Its
+-- memory is the one at its start in the serial run, and has the map's words.
 pub record IsUnderWay (o : Opening) (i : ℕ × ℕ) (start : ℕ) (s : Stage) : Type 0 where
   pub stage : s ≡ Begun i.0 i.1 start 0 0
   pub runs : Runs o i.0 i.1

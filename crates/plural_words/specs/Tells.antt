@@ -1,14 +1,12 @@
 -- The rule of the table, and what each step tells the token that takes it. (This project's own.)
 --
--- A step tells of itself (its word, and what it was to write), of the token before, of the number that it found, and of
--- the token after. It can't name the words' opening, which the token's view has.
-use Rattle.std.specs.Prelude.{ℕ, ◌≡◌, ◌≢◌, ◌+◌, ◌^◌, ◌<◌, ◌≤◌, ◌==◌, true, cond, false, [], ◌∷◌, ◌++◌, slice_index}
+-- A step tells of itself (its word, and what it was to write), of the token before, of the number that it found, and
+-- of the token after. It can't name the words' opening, which the token's view has.
+use Rattle.std.specs.Prelude.{ℕ, ◌≡◌, ◌≢◌, ◌+◌, ◌^◌, ◌<◌, ◌≤◌, ◌==◌, true, cond, false, [], ◌∷◌, slice_index}
 use Rattle.atomic_table.specs.Table.{State, Me, Step}
 use Rattle.plural_map.specs.declared.outcome.Outcome.{Outcome}
-use Rattle.plural_order.specs.TaskGraph.{decision_by}
 use Rattle.plural_counters.specs.Counters.{IsSound}
-use Rattle.plural_counters.specs.Steps.{tell_first, tell_next, on_decision}
-use Rattle.plural_counters.specs.Laws.{outcome_of_flags, decision_of_state}
+use Rattle.plural_counters.specs.Laws.{outcome_of_flags}
 use Rattle.plural_counters.specs.declared.duty.Duty.TheVariants.{Flag, Count, Close, Tell, Decide}
 use Rattle.plural_rule.specs.Opening.{Opening, graph_in, outcome_of, task_count, quota_of}
 use Rattle.plural_rule.specs.Layout.{alloc_at}
@@ -18,8 +16,8 @@ use Rattle.plural_rule.specs.Last.{KnowsWhole, HasTold}
 use Rattle.plural_rule.specs.declared.view.View.{View}
 use Rattle.plural_rule.specs.declared.view.Role.TheVariants.{Root}
 use Rattle.plural_words.specs.Places.{record_at}
-use Rattle.plural_words.specs.Stages.{instance_of, memory_of, may_read, IsUnderWay}
-use Rattle.plural_words.specs.Settling.{settled, armed_now}
+use Rattle.plural_words.specs.Stages.{instance_of, IsRead, IsUnderWay}
+use Rattle.plural_words.specs.Settling.{settled, armed_now, told_first, told_on, decided, SaysDecision}
 
 -- The rule holds of the words and of all views. No slot is used.
 abbrev pub Holds : Opening → State (Unit {0}) View → Type 0
@@ -61,8 +59,7 @@ TellsBegin step m found n = IsNow m (began m.0 found) n × (found ≤ 131072)
 -- A load of a word of the memory.
 abbrev pub TellsRead : Tells
 TellsRead step m found n = IsNow m (did_read m.0) n × (found < 2 ^ 32)
-    × (may_read m.0.opening m.0.stage step.word ≡ true
-    → found ≡ slice_index (memory_of m.0.opening m.0.stage) step.word)
+    × IsRead m.0.opening m.0.stage step.word found
 
 -- A store of the instance.
 abbrev pub TellsStore : Tells
@@ -106,8 +103,8 @@ TellsCount t k step m found n =
 -- A load of the flags of task t, whose instances are all counted.
 abbrev pub TellsFlags : (t : ℕ) → Tells
 TellsFlags t step m found n =
-    IsNow m (settled m.0 (Close t) (tell_first ((graph_in m.0.opening).successors t) t (outcome_of m.0.opening t))) n
-    × IsSoundNow m n × (outcome_of_flags found ≡ outcome_of m.0.opening t)
+    IsNow m (settled m.0 (Close t) (told_first m.0.opening t)) n × IsSoundNow m n
+    × (outcome_of_flags found ≡ outcome_of m.0.opening t)
 
 -- The bits of a dependency join the state of the successor at place e, which task t is told to next.
 abbrev pub TellsMarkEdge : (t : ℕ) → (o : Outcome) → (e : ℕ) → Tells
@@ -117,17 +114,14 @@ TellsMarkEdge t o e step m found n =
 -- The dependency is counted off that successor.
 abbrev pub TellsCountEdge : (t : ℕ) → (o : Outcome) → (e : ℕ) → Tells
 TellsCountEdge t o e step m found n =
-    IsNow m (settled m.0 (Tell t o e true) (cond (found == 1)
-    (Decide (slice_index ((graph_in m.0.opening).successors t) e) ∷ []) []
-    ++ tell_next ((graph_in m.0.opening).successors t) t o e)) n
-    × IsSoundNow m n
+    let u = slice_index ((graph_in m.0.opening).successors t) e in
+    IsNow m (settled m.0 (Tell t o e true) (told_on m.0.opening t o e u (found == 1))) n × IsSoundNow m n
 
 -- A load of the state of task t, whose dependencies are all counted.
 abbrev pub TellsState : (t : ℕ) → Tells
 TellsState t step m found n =
-    IsNow m (settled m.0 (Decide t) (on_decision (graph_in m.0.opening) t (decision_by (graph_in m.0.opening) t))) n
-    × IsSoundNow m n
-    × (decision_of_state (graph_in m.0.opening) t found ≡ decision_by (graph_in m.0.opening) t)
+    IsNow m (settled m.0 (Decide t) (decided m.0.opening t)) n × IsSoundNow m n
+    × SaysDecision m.0.opening t found
 
 -- Task t is armed.
 abbrev pub TellsArm : (t : ℕ) → Tells

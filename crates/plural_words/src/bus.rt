@@ -24,10 +24,12 @@ impl Bus for SeatBus<'_> {
 
     ghost is_sound = { λ b. IsLent b.words.now b.seat.now };
 
+    #[inline(always)]
     fn read(&mut self, a: u32) -> u32 {
         self.words.load_mem(self.seat, a)
     }
 
+    #[inline(always)]
     fn write(&mut self, a: u32, v: u32) {
         self.words.store_mem(self.seat, a, v);
     }

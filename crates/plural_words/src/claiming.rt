@@ -33,14 +33,15 @@ impl Words {
         self.table.shared.load::<Look>(&mut seat.token, index) as u32
     }
 
-    /// Hands out instance `from - 1` of task t to the seat, if the alloc word is `from`, which the seat found there. Else
-    /// the answer is what the word is, which is more. One exchange.
+    /// Hands out instance `from - 1` of task t to the seat, if the alloc word is `from`, which the seat found there.
+    /// Else the answer is what the word is, which is more. One exchange.
     pub fn swap_alloc(&self, seat: &mut Seat, t: u32, from: u32) -> Result<(), u32>
         requires of { IsSeatOf self.now seat.old }
         requires task { t < task_count self.now.opening.program }
         requires free { seat.old.view.stage ≡ Free }
         requires nothing { seat.old.view.owes ≡ [] }
-        requires from { (slice_index seat.old.view.found t ≡ from) × (1 ≤ from) × (from ≤ quota_of self.now.opening.program t) }
+        requires from { slice_index seat.old.view.found t ≡ from }
+        requires left { (1 ≤ from) × (from ≤ quota_of self.now.opening.program t) }
         ensures of { IsSeatOf self.now seat.new }
         ensures got { IfOk result (λ _. seat.new ≡ seat_with seat.old (took seat.old.view t from)) }
         ensures lost { IfErr result (λ saw. seat.new ≡ seat_with seat.old (lost seat.old.view t saw)) }

@@ -27,14 +27,18 @@ impl Model for Closed {
     ghost use Rattle.std.specs.Prelude.{◌≡◌};
     ghost use Rattle.std.specs.Slots.{slots_items, slots_len, IsFull};
     ghost use Rattle.plural_rule.specs.Layout.{word_count};
-    ghost use Rattle.plural_words.specs.Closing.{ClosedSeen, IsClosed};
+    ghost use Rattle.plural_words.specs.Closing.{ClosedSeen, closed_seen, IsClosed};
     ghost use Rattle.plural_words.specs.Places.{HasPlaces};
 
     ghost Value = { ClosedSeen };
 
-    ghost view = { λ c. record { opening = c.table.value.shared.key; words = slots_items c.inner.words; root = c.root.value.me.0 } };
+    ghost view = { λ c. closed_seen c.table.value.shared.key (slots_items c.inner.words) c.root.value.me.0 };
 
-    ghost invariant = { λ c. (IsFull c.inner.words × (slots_len c.inner.slots ≡ 0) × (slots_len c.inner.words ≡ word_count c.table.value.shared.key.program)) × HasPlaces c.table.value.shared.key.program c.places.items c.counters × IsClosed (record { opening = c.table.value.shared.key; words = slots_items c.inner.words; root = c.root.value.me.0 }) × (c.cores ≡ c.table.value.shared.key.cores) };
+    ghost invariant = { λ c. (IsFull c.inner.words × (slots_len c.inner.slots ≡ 0)
+        × (slots_len c.inner.words ≡ word_count c.table.value.shared.key.program))
+        × HasPlaces c.table.value.shared.key.program c.places.items c.counters
+        × IsClosed (closed_seen c.table.value.shared.key (slots_items c.inner.words) c.root.value.me.0)
+        × (c.cores ≡ c.table.value.shared.key.cores) };
 }
 
 impl Closed {

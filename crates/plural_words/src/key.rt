@@ -17,10 +17,12 @@ pub(crate) struct Key {
 impl Model for Key {
     ghost use Rattle.std.specs.Prelude.{take};
     ghost use Rattle.plural_rule.specs.Opening.{Opening};
+    ghost use Rattle.plural_words.specs.Seen.{opening_of};
 
     ghost Value = { Opening };
 
-    ghost view = { λ k. record { program = k.program.value; image = take k.program.value.map.words k.words.value.items; cores = k.cores.value } };
+    ghost view = { λ k. opening_of k.program.value (take k.program.value.map.words k.words.value.items)
+        k.cores.value };
 }
 
 impl Key {

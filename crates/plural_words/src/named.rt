@@ -1,16 +1,14 @@
 //! The settling steps, each with the duty that it does named at its call (`settling` has the calls).
-ghost use Rattle.std.specs.Prelude.{◌≡◌, ◌<◌, ◌++◌, ◌∷◌, [], true, false, cond, slice_get, slice_index, Some};
+ghost use Rattle.std.specs.Prelude.{◌≡◌, ◌<◌, ◌∷◌, [], true, false, cond, slice_get, slice_index, Some};
 ghost use Rattle.std.specs.List.{Contains};
-ghost use Rattle.plural_order.specs.TaskGraph.{decision_by};
 ghost use Rattle.plural_counters.specs.Counters.{IsSound};
-ghost use Rattle.plural_counters.specs.Laws.{outcome_of_flags, decision_of_state};
-ghost use Rattle.plural_counters.specs.Steps.{tell_first, tell_next, on_decision};
+ghost use Rattle.plural_counters.specs.Laws.{outcome_of_flags};
 ghost use Rattle.plural_counters.specs.declared.duty.Duty.TheVariants.{Flag, Count, Close, Tell, Decide, Arm};
 ghost use Rattle.plural_rule.specs.Opening.{task_count, graph_in, ends_of, edges_of, outcome_of};
 ghost use Rattle.plural_rule.specs.Layout.{flags_at, left_at, state_at, open_deps_at};
 ghost use Rattle.plural_rule.specs.Kept.{duties};
 ghost use Rattle.plural_words.specs.Seen.{IsSeatOf, seat_with};
-ghost use Rattle.plural_words.specs.Settling.{settled, armed_now};
+ghost use Rattle.plural_words.specs.Settling.{armed_now, seat_settled, told_first, decided, SaysDecision, edge_marked, edge_counted};
 
 use crate::law::{
     ArmTask, CountEdge, CountInstance, LoadFlags, LoadState, MarkEdge, MarkEnd, Owed,
@@ -54,7 +52,7 @@ impl Words {
         requires owes { Contains seat.old.view.owes (Flag N.task N.number) }
         requires bits { bits ≡ ends_of self.now.opening N.task N.number }
         ensures of { IsSeatOf self.now seat.new }
-        ensures seat { seat.new ≡ seat_with seat.old (settled seat.old.view (Flag N.task N.number) (Count N.task N.number ∷ [])) }
+        ensures seat { seat.new ≡ seat_settled seat.old (Flag N.task N.number) (Count N.task N.number ∷ []) }
         ensures sound { IsSound (graph_in self.now.opening) (duties seat.new.view) }
     {
         let index = self.flags_index(t);
@@ -69,7 +67,7 @@ impl Words {
         requires task { t < task_count self.now.opening.program }
         requires owes { Contains seat.old.view.owes (Count N.task N.number) }
         ensures of { IsSeatOf self.now seat.new }
-        ensures seat { seat.new ≡ seat_with seat.old (settled seat.old.view (Count N.task N.number) (cond result (Close N.task ∷ []) [])) }
+        ensures seat { seat.new ≡ seat_settled seat.old (Count N.task N.number) (cond result (Close N.task ∷ []) []) }
         ensures sound { IsSound (graph_in self.now.opening) (duties seat.new.view) }
     {
         let index = self.left_index(t);
@@ -87,7 +85,7 @@ impl Words {
         requires owes { Contains seat.old.view.owes (Close N.task) }
         ensures of { IsSeatOf self.now seat.new }
         ensures outcome { outcome_of_flags result ≡ outcome_of self.now.opening N.task }
-        ensures seat { seat.new ≡ seat_with seat.old (settled seat.old.view (Close N.task) (tell_first ((graph_in self.now.opening).successors N.task) N.task (outcome_of self.now.opening N.task))) }
+        ensures seat { seat.new ≡ seat_settled seat.old (Close N.task) (told_first self.now.opening N.task) }
         ensures sound { IsSound (graph_in self.now.opening) (duties seat.new.view) }
     {
         let index = self.flags_index(t);
@@ -103,7 +101,7 @@ impl Words {
         requires place { slice_get ((graph_in self.now.opening).successors N.task) N.number ≡ Some u }
         requires bits { bits ≡ edges_of self.now.opening N.task u }
         ensures of { IsSeatOf self.now seat.new }
-        ensures seat { seat.new ≡ seat_with seat.old (settled seat.old.view (Tell N.task N.outcome N.number false) (Tell N.task N.outcome N.number true ∷ [])) }
+        ensures seat { seat.new ≡ edge_marked seat.old N.task N.outcome N.number }
         ensures sound { IsSound (graph_in self.now.opening) (duties seat.new.view) }
     {
         let index = self.state_index(u);
@@ -118,7 +116,7 @@ impl Words {
         requires owes { Contains seat.old.view.owes (Tell N.task N.outcome N.number true) }
         requires place { slice_get ((graph_in self.now.opening).successors N.task) N.number ≡ Some u }
         ensures of { IsSeatOf self.now seat.new }
-        ensures seat { seat.new ≡ seat_with seat.old (settled seat.old.view (Tell N.task N.outcome N.number true) (cond result (Decide u ∷ []) [] ++ tell_next ((graph_in self.now.opening).successors N.task) N.task N.outcome N.number)) }
+        ensures seat { seat.new ≡ edge_counted self.now.opening seat.old N.task N.outcome N.number u result }
         ensures sound { IsSound (graph_in self.now.opening) (duties seat.new.view) }
     {
         let index = self.open_deps_index(u);
@@ -135,8 +133,8 @@ impl Words {
         requires task { t < task_count self.now.opening.program }
         requires owes { Contains seat.old.view.owes (Decide N.task) }
         ensures of { IsSeatOf self.now seat.new }
-        ensures decision { decision_of_state (graph_in self.now.opening) N.task result ≡ decision_by (graph_in self.now.opening) N.task }
-        ensures seat { seat.new ≡ seat_with seat.old (settled seat.old.view (Decide N.task) (on_decision (graph_in self.now.opening) N.task (decision_by (graph_in self.now.opening) N.task))) }
+        ensures decision { SaysDecision self.now.opening N.task result }
+        ensures seat { seat.new ≡ seat_settled seat.old (Decide N.task) (decided self.now.opening N.task) }
         ensures sound { IsSound (graph_in self.now.opening) (duties seat.new.view) }
     {
         let index = self.state_index(t);

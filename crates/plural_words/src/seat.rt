@@ -4,8 +4,8 @@ ghost use Rattle.std.specs.Prelude.{◌≡◌};
 use plural_rule::View;
 use std::marker::Model;
 
-/// A core's token. A call that a core makes takes it, and leaves it knowing what the step told. Contracts see its table,
-/// its core number, and its view.
+/// A core's token. A call that a core makes takes it, and leaves it knowing what the step told. Contracts see its
+/// table, its core number, and its view.
 #[derive(Drop)]
 pub struct Seat {
     pub(crate) token: atomic_table::Seat<(), View>,
@@ -24,7 +24,8 @@ impl Model for Seat {
 
     ghost view = { λ s. record { table = s.token.table_id; core = s.core; view = s.token.me.0 } };
 
-    ghost invariant = { λ s. (length s.token.me.1 ≡ 0) × IsPlaceOf s.token.me.0.opening.program s.token.me.0.stage s.record_place s.last };
+    ghost invariant = { λ s. (length s.token.me.1 ≡ 0)
+        × IsPlaceOf s.token.me.0.opening.program s.token.me.0.stage s.record_place s.last };
 }
 
 impl Seat {

@@ -1,17 +1,17 @@
-//! Settling tasks: the ends of their instances are flagged and counted, their outcomes told, and what stands on them is
-//! decided and armed. Each call does a duty that the seat owes; what comes of it is owed first, and the other duties stay.
-ghost use Rattle.std.specs.Prelude.{◌≡◌, ◌<◌, ◌++◌, ◌∷◌, [], true, false, cond, slice_get, slice_index, Some};
+//! Settling tasks: the ends of their instances are flagged and counted, their outcomes told, and what stands on them
+//! is decided and armed. Each call does a duty that the seat owes; what comes of it is owed first, and the other
+//! duties stay.
+ghost use Rattle.std.specs.Prelude.{◌≡◌, ◌<◌, ◌∷◌, [], true, false, cond, slice_index, Some};
 ghost use Rattle.std.specs.Int.{bit_at};
 ghost use Rattle.std.specs.List.{Contains};
-ghost use Rattle.plural_order.specs.TaskGraph.{outcome_by, decide_by, decision_by};
+ghost use Rattle.plural_order.specs.TaskGraph.{outcome_by, decide_by};
 ghost use Rattle.plural_counters.specs.Counters.{IsSound};
 ghost use Rattle.plural_counters.specs.Laws.{outcome_of_state};
-ghost use Rattle.plural_counters.specs.Steps.{tell_first, tell_next, on_decision};
 ghost use Rattle.plural_counters.specs.declared.duty.Duty.TheVariants.{Flag, Count, Close, Decide, Arm};
 ghost use Rattle.plural_rule.specs.Opening.{task_count, graph_in, ends_of, edges_of, outcome_of};
 ghost use Rattle.plural_rule.specs.Kept.{duties};
 ghost use Rattle.plural_words.specs.Seen.{IsSeatOf, seat_with};
-ghost use Rattle.plural_words.specs.Settling.{settled, armed_now, telling, outcome_told, place_told};
+ghost use Rattle.plural_words.specs.Settling.{armed_now, telling, seat_settled, next_told, told_first, decision_in, decided, next_marked, next_counted};
 
 use crate::place::Place;
 use crate::seat::Seat;
@@ -86,78 +86,78 @@ impl Words {
         requires owes { Contains seat.old.view.owes (Flag t k) }
         requires bits { bits ≡ ends_of self.now.opening t k }
         ensures of { IsSeatOf self.now seat.new }
-        ensures seat { seat.new ≡ seat_with seat.old (settled seat.old.view (Flag t k) (Count t k ∷ [])) }
+        ensures seat { seat.new ≡ seat_settled seat.old (Flag t k) (Count t k ∷ []) }
         ensures sound { IsSound (graph_in self.now.opening) (duties seat.new.view) }
     {
         self.mark_as::<Brand>(seat, t, k, bits);
     }
 
-    /// Counts instance k of task t, which is flagged: whether it was the task's last, and the task is to be closed. One
-    /// step.
+    /// Counts instance k of task t, which is flagged: whether it was the task's last, and the task is to be closed.
+    /// One step.
     pub fn count(&self, seat: &mut Seat, t: u32, k: u32) -> bool
         requires of { IsSeatOf self.now seat.old }
         requires task { t < task_count self.now.opening.program }
         requires owes { Contains seat.old.view.owes (Count t k) }
         ensures of { IsSeatOf self.now seat.new }
-        ensures seat { seat.new ≡ seat_with seat.old (settled seat.old.view (Count t k) (cond result (Close t ∷ []) [])) }
+        ensures seat { seat.new ≡ seat_settled seat.old (Count t k) (cond result (Close t ∷ []) []) }
         ensures sound { IsSound (graph_in self.now.opening) (duties seat.new.view) }
     {
         self.count_as::<Brand>(seat, t, k)
     }
 
-    /// The outcome of task t, whose instances are all counted: that of the serial run, with which the task begins to be
-    /// told. One load.
+    /// The outcome of task t, whose instances are all counted: that of the serial run, with which the task begins to
+    /// be told. One load.
     pub fn load_flags(&self, seat: &mut Seat, t: u32) -> Outcome
         requires of { IsSeatOf self.now seat.old }
         requires task { t < task_count self.now.opening.program }
         requires owes { Contains seat.old.view.owes (Close t) }
         ensures of { IsSeatOf self.now seat.new }
         ensures outcome { result ≡ outcome_of self.now.opening t }
-        ensures seat { seat.new ≡ seat_with seat.old (settled seat.old.view (Close t) (tell_first ((graph_in self.now.opening).successors t) t (outcome_of self.now.opening t))) }
+        ensures seat { seat.new ≡ seat_settled seat.old (Close t) (told_first self.now.opening t) }
         ensures sound { IsSound (graph_in self.now.opening) (duties seat.new.view) }
     {
         let flags = self.load_flags_as::<Brand>(seat, t);
         outcome_of_flags(flags)
     }
 
-    /// Marks the dependency of task u, the successor that task t is to be told to next: its bits join the state of u. One
-    /// step.
+    /// Marks the dependency of task u, the successor that task t is to be told to next: its bits join the state of u.
+    /// One step.
     pub fn mark_edge(&self, seat: &mut Seat, t: u32, u: u32, bits: u64)
         requires of { IsSeatOf self.now seat.old }
         requires task { u < task_count self.now.opening.program }
         requires owes { Contains seat.old.view.owes (telling seat.old.view.owes t false) }
-        requires place { slice_get ((graph_in self.now.opening).successors t) (place_told seat.old.view.owes t) ≡ Some u }
+        requires place { next_told self.now.opening seat.old.view.owes t ≡ Some u }
         requires bits { bits ≡ edges_of self.now.opening t u }
         ensures of { IsSeatOf self.now seat.new }
-        ensures seat { seat.new ≡ seat_with seat.old (settled seat.old.view (telling seat.old.view.owes t false) (telling seat.old.view.owes t true ∷ [])) }
+        ensures seat { seat.new ≡ next_marked seat.old t }
         ensures sound { IsSound (graph_in self.now.opening) (duties seat.new.view) }
     {
         self.mark_edge_as::<Brand>(seat, t, u, bits);
     }
 
-    /// Counts the dependency of task u, which is marked: whether it was the last that u waited for, and u is to be decided.
-    /// One step.
+    /// Counts the dependency of task u, which is marked: whether it was the last that u waited for, and u is to be
+    /// decided. One step.
     pub fn count_edge(&self, seat: &mut Seat, t: u32, u: u32) -> bool
         requires of { IsSeatOf self.now seat.old }
         requires task { u < task_count self.now.opening.program }
         requires owes { Contains seat.old.view.owes (telling seat.old.view.owes t true) }
-        requires place { slice_get ((graph_in self.now.opening).successors t) (place_told seat.old.view.owes t) ≡ Some u }
+        requires place { next_told self.now.opening seat.old.view.owes t ≡ Some u }
         ensures of { IsSeatOf self.now seat.new }
-        ensures seat { seat.new ≡ seat_with seat.old (settled seat.old.view (telling seat.old.view.owes t true) (cond result (Decide u ∷ []) [] ++ tell_next ((graph_in self.now.opening).successors t) t (outcome_told seat.old.view.owes t) (place_told seat.old.view.owes t))) }
+        ensures seat { seat.new ≡ next_counted self.now.opening seat.old t u result }
         ensures sound { IsSound (graph_in self.now.opening) (duties seat.new.view) }
     {
         self.count_edge_as::<Brand>(seat, t, u)
     }
 
-    /// What is decided of task t, whose dependencies are all counted: that of the serial run. If it is to run it is to be
-    /// armed, else it begins to be told. One load.
+    /// What is decided of task t, whose dependencies are all counted: that of the serial run. If it is to run it is to
+    /// be armed, else it begins to be told. One load.
     pub fn load_state(&self, seat: &mut Seat, t: u32) -> Decision
         requires of { IsSeatOf self.now seat.old }
         requires task { t < task_count self.now.opening.program }
         requires owes { Contains seat.old.view.owes (Decide t) }
         ensures of { IsSeatOf self.now seat.new }
-        ensures decision { result ≡ decision_by (graph_in self.now.opening) t }
-        ensures seat { seat.new ≡ seat_with seat.old (settled seat.old.view (Decide t) (on_decision (graph_in self.now.opening) t (decision_by (graph_in self.now.opening) t))) }
+        ensures decision { result ≡ decision_in self.now.opening t }
+        ensures seat { seat.new ≡ seat_settled seat.old (Decide t) (decided self.now.opening t) }
         ensures sound { IsSound (graph_in self.now.opening) (duties seat.new.view) }
     {
         let state = self.load_state_as::<Brand>(seat, t);

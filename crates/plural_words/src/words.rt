@@ -29,16 +29,15 @@ pub struct Words {
 }
 
 impl Model for Words {
-    ghost use Rattle.std.specs.Prelude.{◌≡◌};
-    ghost use Rattle.plural_rule.specs.Layout.{word_count};
     ghost use Rattle.plural_words.specs.Seen.{WordsSeen};
-    ghost use Rattle.plural_words.specs.Places.{HasPlaces};
+    ghost use Rattle.plural_words.specs.Places.{IsLaidOut};
 
     ghost Value = { WordsSeen };
 
     ghost view = { λ w. record { table = w.table.shared.table_id; opening = w.table.shared.key } };
 
-    ghost invariant = { λ w. HasPlaces w.table.shared.key.program w.places.items w.counters × (w.table.shared.table_id.words ≡ word_count w.table.shared.key.program) × (w.memory ≡ w.table.shared.key.program.map.words) × (w.cores ≡ w.table.shared.key.cores) × (w.table.shared.table_id.slots ≡ 0) };
+    ghost invariant = { λ w. IsLaidOut w.table.shared.key w.table.shared.table_id w.places.items w.counters w.memory
+        w.cores };
 }
 
 impl Words {
@@ -46,13 +45,12 @@ impl Words {
     ghost use Rattle.plural_order.specs.Sums.{times};
     ghost use Rattle.plural_rule.specs.Stages.{outs_of};
     ghost use Rattle.plural_rule.specs.Steps.{first_view, root_after, new_seat, joined};
-    ghost use Rattle.plural_rule.specs.Last.{KnowsWhole, HasTold};
     ghost use Rattle.plural_rule.specs.declared.view.Stage.TheVariants.{Free};
-    ghost use Rattle.plural_words.specs.Seen.{IsSeatOf, IsRootOf, root_with};
-    ghost use Rattle.plural_words.specs.Closing.{IsClosed};
+    ghost use Rattle.plural_words.specs.Seen.{opening_of, IsSeatOf, IsRootOf, root_with};
+    ghost use Rattle.plural_words.specs.Closing.{HasToldIfAlone, IsClosed};
 
-    /// Opens the words of a program whose map was accepted, over an image, for this many cores. No seat is out, the tasks
-    /// without dependencies and no others are armed, and the memory is the image.
+    /// Opens the words of a program whose map was accepted, over an image, for this many cores. No seat is out, the
+    /// tasks without dependencies and no others are armed, and the memory is the image.
     pub fn open(
         alloc: Global,
         program: &Program,
@@ -63,7 +61,7 @@ impl Words {
         requires map { accepted.now ≡ program.now.map }
         requires image { length image.now ≡ program.now.map.words }
         requires cores { (1 ≤ cores) × (cores ≤ 64) }
-        ensures opening { IfOk result (λ r. r.0.opening ≡ record { program = program.now; image = image.now; cores = cores }) }
+        ensures opening { IfOk result (λ r. r.0.opening ≡ opening_of program.now image.now cores) }
         ensures of { IfOk result (λ r. IsRootOf r.0 r.1) }
         ensures root { IfOk result (λ r. r.1.view ≡ first_view r.0.opening) }
     {
@@ -97,14 +95,15 @@ impl Words {
         self.split_as::<Brand>(root, core)
     }
 
+    // The same, with the core number named at the call.
     fn split_as<N: Naming>(&self, root: &mut Root, core: u32) -> Seat
         requires name { core ≡ N.core }
         requires of { IsRootOf self.now root.old }
-        requires away { times core (outs_of root.old.view.role) ≡ 0 }
-        requires low { core < self.now.opening.cores }
+        requires away { times N.core (outs_of root.old.view.role) ≡ 0 }
+        requires low { N.core < self.now.opening.cores }
         ensures of { IsRootOf self.now root.new × IsSeatOf self.now result }
-        ensures root { root.new ≡ root_with root.old (root_after root.old.view core) }
-        ensures seat { result ≡ record { table = root.old.table; core = core; view = new_seat root.old.view core } }
+        ensures root { root.new ≡ root_with root.old (root_after root.old.view N.core) }
+        ensures seat { result ≡ record { table = root.old.table; core = core; view = new_seat root.old.view N.core } }
     {
         let token = self.table.shared.split_seat::<Parting<N>>(&mut root.token);
         Seat {
@@ -115,15 +114,15 @@ impl Words {
         }
     }
 
-    /// Takes back a seat that holds no instance and owes nothing: the root knows what it knew. If then no seat is out, and
-    /// the root knows each task that it knows as armed as wholly handed out, every task was told. Two loads.
+    /// Takes back a seat that holds no instance and owes nothing: the root knows what it knew. If then no seat is out,
+    /// and the root knows each task that it knows as armed as wholly handed out, every task was told. Two loads.
     pub fn join(&self, root: &mut Root, seat: Seat)
         requires of { IsRootOf self.now root.old × IsSeatOf self.now seat }
         requires free { seat.view.stage ≡ Free }
         requires nothing { seat.view.owes ≡ [] }
         ensures of { IsRootOf self.now root.new }
         ensures root { root.new ≡ root_with root.old (joined root.old.view seat.view) }
-        ensures told { outs_of root.new.view.role ≡ [] → KnowsWhole self.now.opening root.new.view → HasTold self.now.opening root.new.view }
+        ensures told { HasToldIfAlone self.now.opening root.new.view }
     {
         let Seat { token, .. } = seat;
         self.table

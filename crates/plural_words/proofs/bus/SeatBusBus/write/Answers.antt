@@ -6,6 +6,7 @@ use Rattle.plural_words.specs.Lent.{counts_in, told_in, fixed_of}
 use Rattle.plural_words.proofs.Lent.{told_next, memory_next, one_store_is}
 use Rattle.plural_words.proofs.bus.SeatBusBus.write.Goals as goal
 
+-- A write is the next store of the instance.
 pub returns : goal.returns
 returns c =
     let o = c.args.self.now.words.now.opening in

@@ -10,6 +10,7 @@ use Rattle.plural_words.proofs.closed.Closed.outcome.Goals.{After-word}
 told : (c : After-word) → HasToldTask c.self.inside.root.value.me.0 c.args.t
 told c = subst (λ (x : ClosedSeen). HasToldTask x.root c.args.t) (sym c.self.view_is) c.requires.told
 
+-- The alloc word of the task is one of the words.
 pub word-requires : goal.word-requires
 word-requires c =
     let told = subst (λ (x : ClosedSeen). HasToldTask x.root c.args.t) (sym c.self.view_is) c.requires.told in
@@ -17,6 +18,7 @@ word-requires c =
     let first = c.self.invariant.1.places.next in
     (omega (arith, small, first, c.self.invariant.0.2), c.self.invariant.0.0)
 
+-- So is its state.
 pub word-requires-then-word-eq0 : goal.word-requires-then-word-eq0
 word-requires-then-word-eq0 c =
     let d = (goal.at.word-requires-then-word-eq0 c).After-word in
@@ -24,6 +26,7 @@ word-requires-then-word-eq0 c =
     let first = d.self.invariant.1.places.next in
     (omega (arith, small, first, d.self.invariant.0.2), d.self.invariant.0.0)
 
+-- So are its flags.
 pub word-requires-else-word-eq0 : goal.word-requires-else-word-eq0
 word-requires-else-word-eq0 c =
     let d = (goal.at.word-requires-else-word-eq0 c).After-word in
@@ -31,6 +34,7 @@ word-requires-else-word-eq0 c =
     let first = d.self.invariant.1.places.next in
     (omega (arith, small, first, d.self.invariant.0.2), d.self.invariant.0.0)
 
+-- The state of a task that wasn't armed says its outcome.
 pub returns-then-word-eq0 : goal.returns-then-word-eq0
 returns-then-word-eq0 c =
     let d = (goal.at.returns-then-word-eq0 c).After-word in
@@ -40,6 +44,7 @@ returns-then-word-eq0 c =
     let state = word_at words (d.self.inside.counters + 5 * d.args.t + 3) c.word-then-word-eq0.result c.word-then-word-eq0.ensures in
     c.outcome_of_state.ensures ∙ (ap outcome_of_state state ∙ (unarmed_outcome _ d.args.t d.self.invariant.2 (told d) d.self.inside.counters first was ∙ ap (λ (x : ClosedSeen). outcome_of x.opening d.args.t) d.self.view_is))
 
+-- The flags of a task that was armed say its outcome.
 pub returns-else-word-eq0 : goal.returns-else-word-eq0
 returns-else-word-eq0 c =
     let d = (goal.at.returns-else-word-eq0 c).After-word in

@@ -6,6 +6,7 @@ use Rattle.plural_words.proofs.Tokens.{inside_of, key_of, view_of}
 use Rattle.plural_words.proofs.SettlingSteps.{arm_allowed}
 use Rattle.plural_words.proofs.words.Words.arm_as.Goals as goal
 
+-- The task may be armed.
 pub store-requires : goal.store-requires
 store-requires g c =
     let is = inside_of c.self.view_is c.seat.view_is c.requires.of in

@@ -6,6 +6,7 @@ use Rattle.plural_words.proofs.Tokens.{inside_of, key_of, view_of}
 use Rattle.plural_words.proofs.InstanceSteps.{begin_allowed}
 use Rattle.plural_words.proofs.words.Words.begin.Goals as goal
 
+-- A start ticket may be drawn.
 pub fetch_add-requires : goal.fetch_add-requires
 fetch_add-requires c =
     let is = inside_of c.self.view_is c.seat.view_is c.requires.of in

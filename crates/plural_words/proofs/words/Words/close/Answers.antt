@@ -22,6 +22,7 @@ closed c =
     let keyed = subst (λ (o : Opening). IsClosed (record { opening = o; words = slots_items c.close_with-inner.result.words; root = c.root.inside.token.me.0 })) (sym (opened c)) own in
     subst (λ (v : View). IsClosed (record { opening = c.of-opened.result.value.shared.key; words = slots_items c.close_with-inner.result.words; root = v })) (sym (ap (λ t. t.me.0) c.of-seen.ensures)) keyed
 
+-- The closed words are all there, where their places say.
 pub invariant_of-result : goal.invariant_of-result
 invariant_of-result c =
     let d = (goal.at.invariant_of-result c).After-close_with-inner in
@@ -36,5 +37,6 @@ invariant_of-result c =
       c.self.invariant.3 ∙ ap (λ (o : Opening). o.cores) (sym key),
     )
 
+-- The rule holds of them.
 pub returns-clause-closed : goal.returns-clause-closed
 returns-clause-closed c = closed (goal.at.returns-clause-closed c).After-close_with-inner

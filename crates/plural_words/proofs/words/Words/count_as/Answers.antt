@@ -6,6 +6,7 @@ use Rattle.plural_words.proofs.Tokens.{inside_of, key_of, view_of}
 use Rattle.plural_words.proofs.SettlingSteps.{count_allowed}
 use Rattle.plural_words.proofs.words.Words.count_as.Goals as goal
 
+-- The instance may be counted.
 pub fetch_sub-found-requires : goal.fetch_sub-found-requires
 fetch_sub-found-requires g c =
     let is = inside_of c.self.view_is c.seat.view_is c.requires.of in

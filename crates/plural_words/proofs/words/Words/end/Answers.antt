@@ -6,6 +6,7 @@ use Rattle.plural_words.proofs.Tokens.{inside_of, key_of, view_of}
 use Rattle.plural_words.proofs.InstanceSteps.{end_allowed}
 use Rattle.plural_words.proofs.words.Words.end.Goals as goal
 
+-- An end ticket may be drawn.
 pub fetch_add-ticket-requires : goal.fetch_add-ticket-requires
 fetch_add-ticket-requires c =
     let is = inside_of c.self.view_is c.seat.view_is c.requires.of in

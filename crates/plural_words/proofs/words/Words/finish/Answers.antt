@@ -7,12 +7,14 @@ use Rattle.plural_words.proofs.Tokens.{inside_of, key_of, view_of}
 use Rattle.plural_words.proofs.InstanceSteps.{record_low, noted_ended, finish_allowed}
 use Rattle.plural_words.proofs.words.Words.finish.Goals as goal
 
+-- The last field of the record is far below 2^64.
 pub overflow_add-index : goal.overflow_add-index
 overflow_add-index c =
     let noted = view_of (λ v. IsNoted c.args.self.now.opening c.args.seat.now.core v.stage) c.seat.view_is c.requires.noted in
     let low = record_low c.seat.inside.token.me.0.opening.program _ _ _ (noted_ended _ _ _ noted) c.seat.invariant.1 in
     record { fits = omega (arith, low.1) }
 
+-- It may be stored.
 pub store-requires : goal.store-requires
 store-requires c =
     let is = inside_of c.self.view_is c.seat.view_is c.requires.of in

@@ -12,6 +12,7 @@ use Rattle.plural_words.proofs.RootSteps.{root_inside, none_in, join_allowed, jo
 use Rattle.plural_words.proofs.words.Words.join.Goals as goal
 use Rattle.plural_words.proofs.words.Words.join.Goals.{After-load}
 
+-- A seat that holds and owes nothing may come back.
 pub join_seat-requires : goal.join_seat-requires
 join_seat-requires c =
     let r = root_inside c.self.view_is c.root.view_is c.requires.of.0 in
@@ -21,6 +22,7 @@ join_seat-requires c =
     let words = c.self.invariant.1 in
     (r.table, s.table, none_in _ c.seat.invariant.0, omega (arith, words), join_allowed _ _ _ _ _ _ _ c.root.invariant.1 r.role s.role free nothing)
 
+-- The root may load any word.
 pub load-requires : goal.load-requires
 load-requires c =
     let r = root_inside c.self.view_is c.root.view_is c.requires.of.0 in
@@ -31,6 +33,7 @@ load-requires c =
 now : (c : After-load) → c.load.new.seat.me.0 ≡ joined c.root.inside.token.me.0 c.seat.inside.token.me.0
 now c = ap (λ (m : Token). m.0) (c.load.ensures.2.0 ∙ c.join_seat.ensures.2)
 
+-- The root is still of these words.
 pub returns-clause-of : goal.returns-clause-of
 returns-clause-of c = let d = (goal.at.returns-clause-of c).After-load in
     let r = root_inside d.self.view_is d.root.view_is d.requires.of.0 in
@@ -42,6 +45,7 @@ returns-clause-of c = let d = (goal.at.returns-clause-of c).After-load in
     } in
     subst (λ (x : WordsSeen). IsRootOf x (record { table = d.load.new.seat.table_id; view = d.load.new.seat.me.0 })) d.self.view_is own
 
+-- If the root is alone then, its load tells whether all was told.
 pub returns-clause-told : goal.returns-clause-told
 returns-clause-told c = let d = (goal.at.returns-clause-told c).After-load in
     let r = root_inside d.self.view_is d.root.view_is d.requires.of.0 in

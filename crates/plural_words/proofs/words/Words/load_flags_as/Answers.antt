@@ -6,6 +6,7 @@ use Rattle.plural_words.proofs.Tokens.{inside_of, key_of, view_of}
 use Rattle.plural_words.proofs.SettlingSteps.{flags_allowed}
 use Rattle.plural_words.proofs.words.Words.load_flags_as.Goals as goal
 
+-- The flags of the task may be loaded.
 pub load-requires : goal.load-requires
 load-requires g c =
     let is = inside_of c.self.view_is c.seat.view_is c.requires.of in

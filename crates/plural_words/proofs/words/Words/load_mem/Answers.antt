@@ -4,6 +4,7 @@ use Rattle.plural_words.proofs.Tokens.{inside_of, key_of}
 use Rattle.plural_words.proofs.InstanceSteps.{read_allowed}
 use Rattle.plural_words.proofs.words.Words.load_mem.Goals as goal
 
+-- A word of the memory may be loaded.
 pub load-requires : goal.load-requires
 load-requires c =
     let is = inside_of c.self.view_is c.seat.view_is c.requires.of in

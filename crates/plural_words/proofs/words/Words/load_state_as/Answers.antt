@@ -6,6 +6,7 @@ use Rattle.plural_words.proofs.Tokens.{inside_of, key_of, view_of}
 use Rattle.plural_words.proofs.SettlingSteps.{state_allowed}
 use Rattle.plural_words.proofs.words.Words.load_state_as.Goals as goal
 
+-- The state of the task may be loaded.
 pub load-requires : goal.load-requires
 load-requires g c =
     let is = inside_of c.self.view_is c.seat.view_is c.requires.of in

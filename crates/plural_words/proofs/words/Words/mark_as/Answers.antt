@@ -6,6 +6,7 @@ use Rattle.plural_words.proofs.Tokens.{inside_of, key_of, view_of}
 use Rattle.plural_words.proofs.SettlingSteps.{mark_allowed}
 use Rattle.plural_words.proofs.words.Words.mark_as.Goals as goal
 
+-- The end of the instance may be flagged.
 pub fetch_or-requires : goal.fetch_or-requires
 fetch_or-requires g c =
     let is = inside_of c.self.view_is c.seat.view_is c.requires.of in

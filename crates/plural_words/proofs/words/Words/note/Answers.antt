@@ -11,12 +11,14 @@ use Rattle.plural_words.proofs.InstanceSteps.{record_low, note_allowed, noted_pl
 use Rattle.plural_words.proofs.words.Words.note.Goals as goal
 use Rattle.plural_words.proofs.words.Words.note.Goals.{After-store}
 
+-- The field of the record is far below 2^64.
 pub overflow_add-index : goal.overflow_add-index
 overflow_add-index c =
     let over = view_of (λ v. IsEnded v.stage) c.seat.view_is c.requires.ended in
     let low = record_low c.seat.inside.token.me.0.opening.program _ _ _ over c.seat.invariant.1 in
     record { fits = omega (arith, low.1, c.number.ensures, c.requires.field) }
 
+-- It may be noted.
 pub store-requires : goal.store-requires
 store-requires c =
     let is = inside_of c.self.view_is c.seat.view_is c.requires.of in
@@ -32,9 +34,11 @@ told c =
     let low = record_low c.seat.inside.token.me.0.opening.program _ _ _ over c.seat.invariant.1 in
     c.store.ensures.2 (number_of c.args.field) (omega (arith, low.2, c.number.ensures))
 
+-- The seat's record stays where it was.
 pub invariant_of-seat : goal.invariant_of-seat
 invariant_of-seat c = subst (λ (m : Token). (length m.1 ≡ 0) × IsPlaceOf m.0.opening.program m.0.stage c.seat.inside.record_place c.seat.inside.last) (sym (told c)) (c.seat.invariant.0, noted_place c.seat.inside.token.me.0.opening.program _ _ _ _ _ c.seat.invariant.1)
 
+-- The seat is still of these words.
 pub returns-clause-of : goal.returns-clause-of
 returns-clause-of c = let d = (goal.at.returns-clause-of c).After-store in
     let same = told d in

@@ -9,6 +9,7 @@ use Rattle.plural_words.proofs.Opens.{opens, small_of, key_is, opening_of}
 use Rattle.plural_words.proofs.words.Words.open.Goals as goal
 use Rattle.plural_words.proofs.words.Words.open.Goals.{After-key}
 
+-- The records have fewer than 2^32 words.
 pub opening_words-requires-clause-few : goal.opening_words-requires-clause-few
 opening_words-requires-clause-few c =
     let ok = opening_of c.args.program.now c.args.image.now _ _ c.map.ensures c.words-memory.ensures.limits c.requires.map c.map-map.ensures.accepted c.requires.image in
@@ -18,6 +19,7 @@ opening_words-requires-clause-few c =
 key : (c : After-key) → c.of-key.result ≡ record { program = c.args.program.now; image = c.args.image.now; cores = c.args.cores }
 key c = key_is c.args.program.now c.args.image.now c.in_ok-words.words.items c.args.cores c.of-key.result c.requires.image c.in_ok-words.ensures c.of-key.ensures.program c.of-key.ensures.image c.of-key.ensures.cores
 
+-- The first words meet the rule with the root alone.
 pub of_words-requires : goal.of_words-requires
 of_words-requires c =
     let d = (goal.at.of_words-requires c).After-key in
@@ -27,6 +29,7 @@ of_words-requires c =
     let start = opens o c.as_slice.result.now ok (λ a h. omega (arith, low a)) (c.as_slice.ensures.value ∙ c.in_ok-words.ensures) in
     subst (λ (k : Opening). Kept k c.as_slice.result.now (first_view k ∷ [])) (sym (key d)) start.holds
 
+-- The words are laid out for the opening.
 pub invariant_of-result : goal.invariant_of-result
 invariant_of-result c =
     let d = (goal.at.invariant_of-result c).After-key in

@@ -5,6 +5,7 @@ use Rattle.plural_words.proofs.Tokens.{inside_of, key_of, view_of}
 use Rattle.plural_words.proofs.InstanceSteps.{store_allowed}
 use Rattle.plural_words.proofs.words.Words.store_mem.Goals as goal
 
+-- The instance's next store may be made.
 pub store-requires : goal.store-requires
 store-requires c =
     let is = inside_of c.self.view_is c.seat.view_is c.requires.of in
