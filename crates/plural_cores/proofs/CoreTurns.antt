@@ -1,5 +1,5 @@
 -- Turns of a whole core.
-use Rattle.std.proofs.Common.{◌≡◌, ℕ, ◌<◌, ◌≤◌, List, [], get_or, sym, refl, ap, ◌∙◌, subst, arith, Option, Some}
+use Rattle.std.proofs.Common.{◌≡◌, ℕ, ◌≤◌, List, [], get_or, sym, refl, ap, ◌∙◌, subst, arith, Option, Some}
 use Rattle.plural_serial.specs.Cached.{IsShaped}
 use Rattle.plural_rule.specs.declared.view.Stage.TheVariants.{Free}
 use Rattle.plural_words.specs.Seen.{WordsSeen, SeatSeen, IsSeatOf}

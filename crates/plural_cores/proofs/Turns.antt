@@ -1,25 +1,23 @@
 -- What each kind of turn leaves.
-use Rattle.std.proofs.Common.{◌≡◌, ◌≢◌, ℕ, ◌+◌, ◌-◌, ◌*◌, ◌<◌, ◌≤◌, ◌⊎◌, Bool, true, false, min, List, [], ◌∷◌, get_or, sym, refl, ap, ◌∙◌, subst, inl, inr, arith}
+use Rattle.std.proofs.Common.{◌≡◌, ◌≢◌, ℕ, ◌+◌, ◌<◌, ◌≤◌, ◌⊎◌, Bool, true, false, min, List, [], ◌∷◌, get_or, sym, refl, ap, ◌∙◌, subst, inl, inr, arith}
 use Rattle.std.specs.List.{Contains}
 use Rattle.plural_core.specs.declared.end.End.{End}
 use Rattle.plural_counters.specs.declared.duty.Duty.{Duty}
 use Rattle.plural_counters.specs.declared.duty.Duty.TheVariants.{Flag}
 use Rattle.plural_map.specs.declared.outcome.Outcome.{Outcome}
-use Rattle.plural_serial.specs.Program.{ProgramValue, task_at}
 use Rattle.plural_serial.specs.Cached.{IsShaped}
-use Rattle.plural_rule.specs.Opening.{Opening, task_count, quota_of}
+use Rattle.plural_rule.specs.Opening.{Opening, task_count}
 use Rattle.plural_rule.specs.Last.{KnowsWhole}
 use Rattle.plural_rule.specs.Steps.{began}
 use Rattle.plural_rule.specs.declared.view.View.{View}
-use Rattle.plural_rule.specs.declared.view.Stage.{Stage}
-use Rattle.plural_rule.specs.declared.view.Stage.TheVariants.{Free, Got}
+use Rattle.plural_rule.specs.declared.view.Stage.TheVariants.{Got}
 use Rattle.plural_words.specs.Seen.{WordsSeen, SeatSeen, IsSeatOf, seat_with}
 use Rattle.plural_words.specs.Lent.{fixed_of}
 use Rattle.plural_sync.specs.Deliveries.{IsKept}
-use Rattle.plural_stages.specs.Engines.{EngineSeen, IsGoing, IsOver, done_with}
+use Rattle.plural_stages.specs.Engines.{EngineSeen, IsGoing, IsOver, HasMadeTurn, done_with}
 use Rattle.plural_cores.specs.Later.{IsLater, to_find}
 use Rattle.plural_cores.specs.Sweeps.{HasClaimed, HasNone, IsWhole}
-use Rattle.plural_cores.specs.Works.{IsAtWork, HasTurned, HasRunOut, MayLeave, HasFoundNone, turns_left}
+use Rattle.plural_cores.specs.Works.{IsAtWork, HasTurned, HasRunOut, turns_left}
 use Rattle.plural_cores.specs.declared.answer.CoreTurn.TheVariants.{Worked, Nothing, Left}
 use Rattle.plural_cores.specs.declared.sweep.Instance.{Instance}
 use Rattle.plural_cores.specs.declared.held.Held.{Held}
@@ -111,28 +109,40 @@ begins w s u i e f n start work of at going none =
     }
 
 -- It goes on.
-goes_on : (w : WordsSeen) (s u : SeatSeen) (i : Instance) (e f : EngineSeen) (n : ℕ) → IsAtWork w s (with_held (hand.Running i) e n) → IsSeatOf w u → fixed_of u ≡ fixed_of s → IsGoing w.opening i.t i.k f u → f.core.state.count ≡ e.core.state.count + 1 → HasTurned w s (with_held (hand.Running i) e n) Worked u (with_held (hand.Running i) f n)
-goes_on w s u i e f n work of same going more =
+goes_on : (w : WordsSeen) (s u : SeatSeen) (i : Instance) (e f : EngineSeen) (n : ℕ) → IsAtWork w s (with_held (hand.Running i) e n) → IsSeatOf w u → fixed_of u ≡ fixed_of s → HasMadeTurn w.opening i.t i.k e f → IsGoing w.opening i.t i.k f u → f.core.state.count ≡ e.core.state.count + 1 → HasTurned w s (with_held (hand.Running i) e n) Worked u (with_held (hand.Running i) f n)
+goes_on w s u i e f n work of same one going more =
     let later = stage_later s u same in
     let less = to_find_least w.opening.program s.view u.view later.found in
     record {
       work = record { of = of; nothing = ap (λ (x : SeatSeen). x.view.owes) same ∙ work.nothing; shape = going.running.shape; holding = going; idle = work.idle };
       later = later;
-      turn = ((same, inl (refl, more)), work.idle);
+      turn = ((same, one, inl (refl, more)), work.idle);
       falls = λ _. omega (arith, less, more, work.holding.room);
     }
 
--- It is over.
-is_over : (w : WordsSeen) (s u : SeatSeen) (i : Instance) (end : End) (e f : EngineSeen) (n : ℕ) → IsAtWork w s (with_held (hand.Running i) e n) → IsSeatOf w u → fixed_of u ≡ fixed_of s → IsOver w.opening i.t i.k end f u → HasTurned w s (with_held (hand.Running i) e n) Worked u (with_held (hand.Over i end) f n)
-is_over w s u i end e f n work of same over =
+-- It is over, after however many turns.
+pub record IsOverNow (w : WordsSeen) (s u : SeatSeen) (k l : Work) : Type 0 where
+  pub work : IsAtWork w u l
+  pub later : IsLater s u
+  pub falls : turns_left w.opening u l < turns_left w.opening s k
+
+over_so : (w : WordsSeen) (s u : SeatSeen) (i : Instance) (end : End) (e f : EngineSeen) (n : ℕ) → IsAtWork w s (with_held (hand.Running i) e n) → IsSeatOf w u → fixed_of u ≡ fixed_of s → IsOver w.opening i.t i.k end f u
+    → IsOverNow w s u (with_held (hand.Running i) e n) (with_held (hand.Over i end) f n)
+over_so w s u i end e f n work of same over =
     let later = stage_later s u same in
     let less = to_find_least w.opening.program s.view u.view later.found in
     record {
       work = record { of = of; nothing = ap (λ (x : SeatSeen). x.view.owes) same ∙ work.nothing; shape = over.running.shape; holding = over; idle = work.idle };
       later = later;
-      turn = ((same, inr (end, refl)), work.idle);
-      falls = λ _. omega (arith, less);
+      falls = omega (arith, less);
     }
+
+-- It is over after one turn.
+is_over : (w : WordsSeen) (s u : SeatSeen) (i : Instance) (end : End) (e f : EngineSeen) (n : ℕ) → IsAtWork w s (with_held (hand.Running i) e n) → IsSeatOf w u → fixed_of u ≡ fixed_of s → HasMadeTurn w.opening i.t i.k e f → IsOver w.opening i.t i.k end f u
+    → HasTurned w s (with_held (hand.Running i) e n) Worked u (with_held (hand.Over i end) f n)
+is_over w s u i end e f n work of same one over =
+    let so = over_so w s u i end e f n work of same over in
+    record { work = so.work; later = so.later; turn = ((same, one, inr (end, refl, over.ended)), work.idle); falls = λ _. so.falls }
 
 -- It is done, and what this makes due is settled.
 later_done : (s u : SeatSeen) (t k : ℕ) → u ≡ seat_with s (done_with t k s.view) → IsLater s u
@@ -196,14 +206,14 @@ module _ (w : WordsSeen) (s u : SeatSeen) (k : Work) where
       (begins w s u i k.engine f k.idle start (from_held (hand.Claimed i) (λ x. IsAtWork w s x) e work) of at going none)
 
   -- Its instance goes on.
-  pub goes_on_now : (i : Instance) (f : EngineSeen) → k.held ≡ hand.Running i → IsAtWork w s k → IsSeatOf w u → fixed_of u ≡ fixed_of s → IsGoing w.opening i.t i.k f u → f.core.state.count ≡ k.engine.core.state.count + 1 → HasTurned w s k Worked u (with_held k.held f k.idle)
-  goes_on_now i f e work of same going more = at_held (hand.Running i) (λ x. HasTurned w s x Worked u (with_held x.held f k.idle)) e
-      (goes_on w s u i k.engine f k.idle (from_held (hand.Running i) (λ x. IsAtWork w s x) e work) of same going more)
+  pub goes_on_now : (i : Instance) (f : EngineSeen) → k.held ≡ hand.Running i → IsAtWork w s k → IsSeatOf w u → fixed_of u ≡ fixed_of s → HasMadeTurn w.opening i.t i.k k.engine f → IsGoing w.opening i.t i.k f u → f.core.state.count ≡ k.engine.core.state.count + 1 → HasTurned w s k Worked u (with_held k.held f k.idle)
+  goes_on_now i f e work of same one going more = at_held (hand.Running i) (λ x. HasTurned w s x Worked u (with_held x.held f k.idle)) e
+      (goes_on w s u i k.engine f k.idle (from_held (hand.Running i) (λ x. IsAtWork w s x) e work) of same one going more)
 
-  -- Its instance is over.
-  pub is_over_now : (i : Instance) (end : End) (f : EngineSeen) → k.held ≡ hand.Running i → IsAtWork w s k → IsSeatOf w u → fixed_of u ≡ fixed_of s → IsOver w.opening i.t i.k end f u → HasTurned w s k Worked u (with_held (hand.Over i end) f k.idle)
-  is_over_now i end f e work of same over = at_held (hand.Running i) (λ x. HasTurned w s x Worked u (with_held (hand.Over i end) f k.idle)) e
-      (is_over w s u i end k.engine f k.idle (from_held (hand.Running i) (λ x. IsAtWork w s x) e work) of same over)
+  -- Its instance is over after one turn.
+  pub is_over_now : (i : Instance) (end : End) (f : EngineSeen) → k.held ≡ hand.Running i → IsAtWork w s k → IsSeatOf w u → fixed_of u ≡ fixed_of s → HasMadeTurn w.opening i.t i.k k.engine f → IsOver w.opening i.t i.k end f u → HasTurned w s k Worked u (with_held (hand.Over i end) f k.idle)
+  is_over_now i end f e work of same one over = at_held (hand.Running i) (λ x. HasTurned w s x Worked u (with_held (hand.Over i end) f k.idle)) e
+      (is_over w s u i end k.engine f k.idle (from_held (hand.Running i) (λ x. IsAtWork w s x) e work) of same one over)
 
   -- Its instance is done, and what this makes due is settled.
   pub settles_now : (m d : SeatSeen) (i : Instance) (end : End) (f : EngineSeen) → k.held ≡ hand.Over i end → IsAtWork w s k → IsSeatOf w u → fixed_of m ≡ fixed_of s → d ≡ seat_with m (done_with i.t i.k m.view) → u.view.owes ≡ [] → IsKept d u → IsShaped w.opening.program.map f.cache → HasTurned w s k Worked u (with_held hand.Nothing f k.idle)
@@ -213,8 +223,9 @@ module _ (w : WordsSeen) (s u : SeatSeen) (k : Work) where
   -- All instructions of its instance are done.
   pub runs_out_now : (i : Instance) (end : End) (f : EngineSeen) → k.held ≡ hand.Running i → IsAtWork w s k → IsSeatOf w u → fixed_of u ≡ fixed_of s → IsOver w.opening i.t i.k end f u → HasRunOut w s k u (with_held (hand.Over i end) f k.idle)
   runs_out_now i end f e work of same over =
-      let is = is_over_now i end f e work of same over in
-      record { work = is.work; later = is.later; falls = omega (arith, is.falls (λ x. cc)) }
+      let is = at_held (hand.Running i) (λ x. IsOverNow w s u x (with_held (hand.Over i end) f k.idle)) e
+      (over_so w s u i end k.engine f k.idle (from_held (hand.Running i) (λ x. IsAtWork w s x) e work) of same over) in
+      record { work = is.work; later = is.later; falls = omega (arith, is.falls) }
 
   -- What it holds is as far as it says.
   pub holding_got : (i : Instance) → k.held ≡ hand.Claimed i → IsAtWork w s k → s.view.stage ≡ Got i.t i.k

@@ -1,5 +1,5 @@
 -- What a core has of its work, what a turn does to it, and how many turns it has left. (This project's own.)
-use Rattle.std.specs.Prelude.{ℕ, ◌≡◌, ◌≢◌, ◌+◌, ◌-◌, ◌*◌, ◌<◌, ◌≤◌, ◌⊎◌, min, []}
+use Rattle.std.specs.Prelude.{ℕ, ◌≡◌, ◌≢◌, ◌+◌, ◌-◌, ◌*◌, ◌<◌, ◌≤◌, ◌⊎◌, min, [], Some}
 use Rattle.plural_core.specs.declared.end.End.{End}
 use Rattle.plural_serial.specs.Program.{task_at}
 use Rattle.plural_serial.specs.Cached.{IsShaped}
@@ -10,7 +10,7 @@ use Rattle.plural_rule.specs.declared.view.View.{View}
 use Rattle.plural_rule.specs.declared.view.Stage.TheVariants.{Free, Got}
 use Rattle.plural_words.specs.Seen.{WordsSeen, SeatSeen, IsSeatOf, seat_with}
 use Rattle.plural_words.specs.Lent.{fixed_of}
-use Rattle.plural_stages.specs.Engines.{EngineSeen, IsGoing, IsOver}
+use Rattle.plural_stages.specs.Engines.{EngineSeen, IsGoing, IsOver, HasMadeTurn}
 use Rattle.plural_cores.specs.Later.{IsLater, to_find}
 use Rattle.plural_cores.specs.Sweeps.{HasTried, HasClaimed}
 use Rattle.plural_cores.specs.declared.answer.CoreTurn.{CoreTurn}
@@ -47,14 +47,15 @@ pub record IsAtWork (w : WordsSeen) (s : SeatSeen) (k : Work) : Type 0 where
 
 -- ---- what a turn does
 
--- A core that holds nothing has claimed an instance; an instance has begun; one more instruction of it is completed,
--- or it has ended; or it is done, and the core holds nothing.
+-- A core that holds nothing has claimed an instance; an instance has begun; one turn more of it was made, after which
+-- it goes on with one instruction more completed, or has ended so; or it is done, and the core holds nothing.
 abbrev pub HasWorked : Opening → Held → EngineSeen → SeatSeen → Held → EngineSeen → SeatSeen → Type 0
 HasWorked o hand.Nothing e s h f u = (i : Instance) × (h ≡ hand.Claimed i) × HasClaimed o i s u
 HasWorked o (hand.Claimed i) e s h f u =
     (start : ℕ) × (u ≡ seat_with s (began s.view start)) × (h ≡ hand.Running i) × (f.core.state.count ≡ 0)
-HasWorked o (hand.Running i) e s h f u = (fixed_of u ≡ fixed_of s)
-    × (((h ≡ hand.Running i) × (f.core.state.count ≡ e.core.state.count + 1)) ⊎ ((end : End) × (h ≡ hand.Over i end)))
+HasWorked o (hand.Running i) e s h f u = (fixed_of u ≡ fixed_of s) × HasMadeTurn o i.t i.k e f
+    × (((h ≡ hand.Running i) × (f.core.state.count ≡ e.core.state.count + 1))
+    ⊎ ((end : End) × (h ≡ hand.Over i end) × (f.core.state.over ≡ Some end)))
 HasWorked o (hand.Over i end) e s h f u = (h ≡ hand.Nothing) × (u.view.stage ≡ Free)
 
 -- The view allows the core to leave: each task that it knows as armed is known as wholly handed out, and there is one

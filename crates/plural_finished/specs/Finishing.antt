@@ -19,8 +19,8 @@ use Rattle.plural_words.specs.Closing.{ClosedSeen, IsClosed}
 abbrev pub says : ClosedSeen → Content
 says c = content c.opening.program c.words
 
--- The words of a whole run: they were opened for 1 to 64 cores over a program whose map is within its limits and has no
--- clash, and an image of its length; and the root has told every task.
+-- The words of a whole run: they were opened for 1 to 64 cores over a program whose map is within its limits and has
+-- no clash, and an image of its length; and the root has told every task.
 pub record IsClosedRun (c : ClosedSeen) : Type 0 where
   pub program : IsProgram c.opening.program
   pub opening : IsOpening c.opening.program c.opening.image
@@ -75,8 +75,8 @@ pub record AreOutcomes (o : Opening) (n : ℕ) (outcomes : List Outcome) : Type 
   pub one_each : length outcomes ≡ n
   pub each : (t : ℕ) → t < n → slice_get outcomes t ≡ Some (outcome_of o t)
 
--- A finished machine: the number of its cores, the last memory, the outcome of each task, the entries of the instances,
--- and its closed words.
+-- A finished machine: the number of its cores, the last memory, the outcome of each task, the entries of the
+-- instances, and its closed words.
 pub record FinishedValue : Type 0 where
   pub cores : ℕ
   pub image : List ℕ

@@ -30,7 +30,8 @@ impl Model for Finished {
 
     ghost view = { λ f. finished_of f.cores f.image.items f.outcomes.items f.entries.items f.closed };
 
-    ghost invariant = { λ f. IsFinished (finished_of f.cores f.image.items f.outcomes.items f.entries.items f.closed) };
+    ghost invariant = { λ f. IsFinished
+        (finished_of f.cores f.image.items f.outcomes.items f.entries.items f.closed) };
 }
 
 impl Finished {

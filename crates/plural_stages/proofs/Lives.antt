@@ -86,6 +86,7 @@ pub record HasAhead (o : Opening) (t k n : ℕ) : Type 0 where
   pub more : List (ℕ × ℕ)
   pub all : stores_of o t k ≡ (turns_of o t k n).stores ++ ((next_of o t k n).stores ++ more)
 
+-- An instance that hasn't come to its last turn has a turn ahead.
 pub next_ahead : (o : Opening) (t k n : ℕ) → IsAt o t k n → HasAhead o t k n
 next_ahead o t k n h =
     let b = (task_at o.program t).budget in

@@ -17,7 +17,7 @@ use Rattle.plural_order.specs.World.{start_at}
 use Rattle.plural_rule.specs.Opening.{Opening, world_in}
 use Rattle.plural_words.specs.Lent.{told_in, fixed_of, IsLent}
 use Rattle.plural_words.specs.Seen.{WordsSeen, SeatSeen, IsSeatOf}
-use Rattle.plural_stages.specs.Engines.{EngineSeen, IsGoing, IsOver, turns_of, all_turns_of}
+use Rattle.plural_stages.specs.Engines.{EngineSeen, IsGoing, IsOver, HasMadeTurn, turns_of, all_turns_of}
 use Rattle.plural_stages.specs.Stacked.{HasSunk}
 use Rattle.plural_stages.proofs.Lives.{IsAt, next_of, left_of, all_are, next_are, last_are, end_is, next_ahead, left_ahead}
 use Rattle.plural_stages.proofs.Going.{IsReady, ready, stack_of, HasStepped, stepped}
@@ -41,6 +41,7 @@ pub record IsPlaced (p : ProgramValue) (t : ℕ) (code : List ℕ) (regions : Li
   pub same_code : code ≡ p.code
   pub same_regions : regions ≡ (task_at p t).regions
 
+-- What is said of the program and the task at hand is said of those of the opening.
 pub placed_by : (p q : ProgramValue) (t : ℕ) (task : TaskValue) (code : List ℕ) (regions : List Region) → p ≡ q → task ≡ task_at p t
     → code ≡ p.code → regions ≡ task.regions → IsPlaced q t code regions
 placed_by p q t task code regions same is by_code by_regions = record {
@@ -84,6 +85,7 @@ pub record IsFewSoFar (e : EngineSeen) : Type 0 where
   pub loads : e.cache.loads ≤ e.core.state.count
   pub stores : e.cache.stores ≤ e.core.state.count
 
+-- It has made no more loads and no more stores than turns so far.
 pub few_so_far : (o : Opening) (t k : ℕ) (e : EngineSeen) (s : SeatSeen) → IsGoing o t k e s → IsFewSoFar e
 few_so_far o t k e s h =
     let n = e.core.state.count in
@@ -108,6 +110,7 @@ foresees_some : (expected : Option (List (ℕ × ℕ))) (stores more : List (ℕ
 foresees_some None stores more h = tt
 foresees_some (Some l) stores more h = (more, cc h)
 
+-- The stores of the next turn are expected.
 pub turn_foreseen : (w : WordsSeen) (t k : ℕ) (e : EngineSeen) (s : SeatSeen) (code : List ℕ) (regions : List Region) → IsSeatOf w s → IsGoing w.opening t k e s
     → IsPlaced w.opening.program t code regions
     → Foresees (told_through e.pairs (told_in w.opening s.view.stage)).expects (turn_of code regions e.core (words_of w.opening e s)).stores
@@ -159,6 +162,16 @@ stepped_by w v t k step does e f s n h is same core start sunk lent fixed =
       fixed = fixed;
     }
 
+-- After its next turn it has made one turn more.
+pub one_more : (w : WordsSeen) (t k : ℕ) (e f : EngineSeen) (s n : SeatSeen) → IsGoing w.opening t k e s → HasStepped w t k (next_of w.opening t k e.core.state.count) e f s n
+    → HasMadeTurn w.opening t k e f
+one_more w t k e f s n h st =
+    ap (λ (c : Core). c.state) st.core ∙ sym (ap (λ (x : Step). x.state) (next_are w.opening t k e.core.state.count (is_at w.opening t k e s h)))
+
+-- What the engine was is told by an equation.
+pub more_than : (o : Opening) (t k : ℕ) (d e f : EngineSeen) → e ≡ d → HasMadeTurn o t k e f → HasMadeTurn o t k d f
+more_than o t k d e f same h = subst (λ (x : EngineSeen). HasMadeTurn o t k x f) same h
+
 -- It goes on after a turn without end.
 pub goes_on : (w : WordsSeen) (t k : ℕ) (e f : EngineSeen) (s n : SeatSeen) → IsGoing w.opening t k e s → HasStepped w t k (next_of w.opening t k e.core.state.count) e f s n
     → f.core.state.over ≡ None → (f.core.state.over ≡ None → f.core.state.count < f.core.budget)
@@ -207,10 +220,12 @@ ran_out w t k e f s n end h st over =
 
 -- ---- what a turn answers
 
+-- A turn that goes on has no end.
 pub none_of : (x : Option End) → outcome.Going ≡ outcome_of x → x ≡ None
 none_of None h = refl
 none_of (Some e) h = absurd (cc h)
 
+-- A turn that is over has this end.
 pub some_of : (x : Option End) (e : End) → outcome.Over e ≡ outcome_of x → x ≡ Some e
 some_of None e h = absurd (cc h)
 some_of (Some f) e h = cc h

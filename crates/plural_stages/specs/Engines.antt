@@ -34,8 +34,8 @@ all_turns_of o t k = life_of o.program t k (start_at (world_in o) (t, k))
 
 -- The engine and the seat run instance (t, k), which has come this far: the hart is in its state; the cache stands for
 -- its loads and has counted its stores, and what it has of the memory is what the instance has there; the seat has
--- read eight words for each miss; and its stores are those that the seat has made and those that wait, which come next. The
--- map is within its limits.
+-- read eight words for each miss; and its stores are those that the seat has made and those that wait, which come
+-- next. The map is within its limits.
 pub record IsRunning (o : Opening) (t k : ℕ) (sofar : Step) (e : EngineSeen) (s : SeatSeen) : Type 0 where
   pub made : ℕ
   pub stage : s.view.stage ≡ Begun t k e.start made (8 * e.cache.misses)
@@ -66,7 +66,11 @@ pub record IsOver (o : Opening) (t k : ℕ) (over : End) (e : EngineSeen) (s : S
   pub ended : e.core.state.over ≡ Some over
   pub is_end : over ≡ (record_of o t k).«end»
 
--- It has, and no store waits any more.
+-- One turn more of instance (t, k) was made than the hart had counted, and no more than one.
+abbrev pub HasMadeTurn : Opening → (t k : ℕ) → (old new : EngineSeen) → Type 0
+HasMadeTurn o t k e f = f.core.state ≡ (turns_of o t k (e.core.state.count + 1)).state
+
+-- It has made all its turns and ended so, and no store waits any more.
 pub record IsDrained (o : Opening) (t k : ℕ) (over : End) (e : EngineSeen) (s : SeatSeen) : Type 0 where
   pub running : IsRunning o t k (all_turns_of o t k) e s
   pub drained : e.pairs ≡ []

@@ -7,8 +7,8 @@ use Rattle.plural_core.specs.Turn.{Step}
 use Rattle.plural_serial.specs.Cached.{IsCacheOver, KeepsCounts}
 
 -- A step's accesses went through a cache to a bus and nothing else: the bus holds the step's memory, its stores are
--- gone from those expected, the cache stands for its loads after the others and has counted its stores, the differences of
--- counts stay, and the two may be used on.
+-- gone from those expected, the cache stands for its loads after the others and has counted its stores, the
+-- differences of counts stay, and the two may be used on.
 pub record HasPassed (step : Step) (c d : CacheValue) (told now : Told) (counts after : Counted) : Type 0 where
   pub stored : now ≡ told_after (length step.stores) step.memory told
   pub stands : (h : List ℕ) → StandsFor c h → StandsFor d (h ++ step.loads)

@@ -2,7 +2,7 @@
 ghost use Rattle.std.specs.Prelude.{◌≡◌, ◌+◌, MatchOption};
 ghost use Rattle.plural_words.specs.Lent.{fixed_of};
 ghost use Rattle.plural_words.specs.Seen.{IsSeatOf};
-ghost use Rattle.plural_stages.specs.Engines.{IsGoing, IsOver};
+ghost use Rattle.plural_stages.specs.Engines.{IsGoing, IsOver, HasMadeTurn};
 
 use crate::engine::Engine;
 use crate::through::{run_through, turn_through};
@@ -11,7 +11,7 @@ use plural_serial::Program;
 use plural_words::{Seat, SeatBus, Words};
 
 impl Engine {
-    /// One instruction of instance k of task t, and how the instance ended if it was the last.
+    /// One turn of instance k of task t, which is one instruction, and how the instance ended if it was the last.
     pub fn turn(
         &mut self,
         words: &Words,
@@ -25,6 +25,7 @@ impl Engine {
         requires going { IsGoing words.now.opening t k self.old seat.old }
         ensures of { IsSeatOf words.now seat.new }
         ensures fixed { fixed_of seat.new ≡ fixed_of seat.old }
+        ensures one { HasMadeTurn words.now.opening t k self.old self.new }
         ensures turned { MatchOption result
             (IsGoing words.now.opening t k self.new seat.new
             × (self.new.core.state.count ≡ self.old.core.state.count + 1))

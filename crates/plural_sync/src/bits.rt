@@ -1,7 +1,6 @@
 //! The bits that ends and dependencies set in the words of their tasks.
 ghost use Rattle.std.specs.Prelude.{◌≡◌, ◌<◌, length};
 ghost use Rattle.std.specs.Option.{option_map_or};
-ghost use Rattle.plural_map.specs.Decisions.{satisfies};
 ghost use Rattle.plural_reach.specs.Chains.{deps_of};
 ghost use Rattle.plural_order.specs.ProgramGraph.{bits_of_end, bits_of_dep, when_on};
 
@@ -21,25 +20,15 @@ pub(crate) fn bits_of_end(end: End) -> u64
     }
 }
 
-fn satisfies(when: When, outcome: Outcome) -> bool
-    ensures { result ≡ satisfies when outcome }
-{
-    match when {
-        When::Any => outcome != Outcome::Failed,
-        When::Code0 => outcome == Outcome::Ended0,
-        When::Code1 => outcome == Outcome::Ended1,
-    }
-}
-
 fn bits_of_dep(when: When, outcome: Outcome) -> u64
     ensures { result ≡ bits_of_dep when outcome }
 {
-    if outcome == Outcome::Failed {
-        1
-    } else if satisfies(when, outcome) {
-        4
-    } else {
-        2
+    match (when, outcome) {
+        (_, Outcome::Failed) => 1,
+        (When::Any, _) => 4,
+        (When::Code0, Outcome::Ended0) => 4,
+        (When::Code1, Outcome::Ended1) => 4,
+        _ => 2,
     }
 }
 

@@ -15,8 +15,14 @@ pub(crate) struct Telling {
     pub place: usize,
 }
 
+/// Task 0, failed, told to its first successor: the blank of a fixed list.
 impl Default for Telling {
-    fn default() -> Telling {
+    ghost use Rattle.std.specs.Prelude.{◌≡◌};
+    ghost use Rattle.plural_map.specs.declared.outcome.Outcome.TheVariants.{Failed};
+
+    fn default() -> Telling
+        ensures { result ≡ record { task = 0; outcome = Failed; place = 0 } }
+    {
         Telling {
             task: 0,
             outcome: Outcome::Failed,

@@ -21,6 +21,7 @@ lost_view v quota t n saw free =
     ap (λ (l : List ℕ). record v { found = l; looks = risen v.looks t; losses = risen v.losses t }) (set-set v.found t n saw)
     ∙ ap (λ (s : Stage). record v { found = set v.found t saw; looks = risen v.looks t; losses = risen v.losses t; stage = s }) free
 
+-- An exchange that was made leaves the seat as a claim that got its instance does.
 pub returns-in-Ok-clause-seat : goal.returns-in-Ok-clause-seat
 returns-in-Ok-clause-seat c =
     let n = c.load_alloc-loaded.result in
@@ -28,6 +29,7 @@ returns-in-Ok-clause-seat c =
     ∙ (ap (λ (s : SeatSeen). seat_with s (took s.view c.args.t n)) c.load_alloc-loaded.ensures.seat
     ∙ ap (λ (v : View). seat_with c.args.seat.now v) (got_view c.args.seat.now.view (quota_of c.args.program.now c.args.t) c.args.t n (omega (arith, c.if-loaded-eq0.false))))
 
+-- An exchange that was lost leaves it as a lost claim does.
 pub returns-in-Err-clause-seat : goal.returns-in-Err-clause-seat
 returns-in-Err-clause-seat c =
     let n = c.load_alloc-loaded.result in

@@ -6,6 +6,7 @@ use Rattle.plural_sync.specs.Lists.{rows_of, HasGained}
 use Rattle.plural_sync.proofs.Rows.{gained_more}
 use Rattle.plural_sync.proofs.lists.add_task.Goals as goal
 
+-- The task is added to the list of one dependency more.
 pub loop-dep-preserved : goal.loop-dep-preserved
 loop-dep-preserved c =
     let i = c.loop-dep.dep-index in

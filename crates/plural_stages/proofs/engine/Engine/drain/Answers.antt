@@ -2,6 +2,7 @@ use Rattle.std.proofs.Common.{◌∙◌, ap, drop, ℕ, List}
 use Rattle.std.proofs.lemmas.List.{drop-drop}
 use Rattle.plural_stages.proofs.engine.Engine.drain.Goals as goal
 
+-- One store less waits.
 pub loop-i-preserved : goal.loop-i-preserved
 loop-i-preserved c =
     let one = c.drain_one.ensures in

@@ -6,13 +6,16 @@ use Rattle.plural_stages.specs.Engines.{EngineSeen, IsRunning, all_turns_of}
 use Rattle.plural_stages.proofs.Endings.{running_lent, few_made, drain_is, one_less}
 use Rattle.plural_stages.proofs.engine.Engine.drain_one.Goals as goal
 
+-- The seat is lent to the bus.
 pub drain-requires-clause-sound : goal.drain-requires-clause-sound
 drain-requires-clause-sound c =
     running_lent c.args.words.now c.args.t c.args.k (all_turns_of c.args.words.now.opening c.args.t c.args.k) c.args.self.now c.args.seat.now c.requires.of c.requires.running
 
+-- The bus has room for a store more.
 pub drain-requires-clause-room : goal.drain-requires-clause-room
 drain-requires-clause-room c = few_made c.args.words.now.opening c.args.t c.args.k c.args.self.now c.args.seat.now c.requires.running
 
+-- The engine is as far with its instance, with a store less that waits.
 pub returns-clause-running : goal.returns-clause-running
 returns-clause-running c =
     let w = c.args.words.now in

@@ -5,9 +5,11 @@ use Rattle.plural_stages.specs.Engines.{EngineSeen, IsDrained}
 use Rattle.plural_stages.proofs.Endings.{has_run, noted_none, noted_more, record_noted}
 use Rattle.plural_stages.proofs.engine.Engine.finish.Goals as goal
 
+-- The instance has made all its stores and reads.
 pub end-requires-clause-run : goal.end-requires-clause-run
 end-requires-clause-run c = has_run c.args.words.now.opening c.args.t c.args.k c.args.end c.args.self.now c.args.seat.now c.requires.drained
 
+-- Its record is noted as in the serial run.
 pub finish-requires-clause-noted : goal.finish-requires-clause-noted
 finish-requires-clause-noted c =
     let o = c.args.words.now.opening in
