@@ -1,3 +1,4 @@
 pub mod Outs
 pub mod CoreLists
+pub mod Joined
 pub mod Staying

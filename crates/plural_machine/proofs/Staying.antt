@@ -24,6 +24,11 @@ use Rattle.plural_machine.specs.Drawn.{drawn_place, AreRising, IsBetween, AreSta
 
 -- ---- the numbers
 
+-- A list of length 0 is empty.
+pub none_left : (l : List ℕ) → length l ≡ 0 → l ≡ []
+none_left [] e = refl
+none_left (x ∷ l) e = absurd (omega (arith, e))
+
 numbers_last : (a n j : ℕ) → a + n ≡ j → range_with_len a (suc n) ≡ range_with_len a n ++ j ∷ []
 numbers_last a zero j e = let only : a ≡ j = omega arith in ap (λ (m : ℕ). m ∷ []) only
 numbers_last a (suc n) j e = ap (λ (l : List ℕ). a ∷ l) (numbers_last (a + 1) n j (omega arith))

@@ -1,8 +1,7 @@
 -- The cores of a machine, side by side. (This project's own.)
-use Rattle.std.specs.Prelude.{ℕ, ◌<◌, List, length, slice_index_or}
+use Rattle.std.specs.Prelude.{ℕ, ◌≡◌, ◌<◌, List, length, slice_index_or}
 use Rattle.plural_words.specs.Seen.{WordsSeen}
 use Rattle.plural_cores.specs.Cores.{CoreSeen, IsOpened, IsReady, HasLeft}
-use Rattle.std.specs.Prelude.{◌≡◌}
 
 -- Each core of the list is so, by its place.
 pub record Each (P : ℕ → CoreSeen → Type 0) (cores : List CoreSeen) : Type 0 where
@@ -21,6 +20,10 @@ pub record IsSent (w : WordsSeen) (first : List ℕ) (i : ℕ) (c : CoreSeen) : 
 pub record IsBack (w : WordsSeen) (first : List ℕ) (i : ℕ) (c : CoreSeen) : Type 0 where
   pub number : c.number ≡ i
   pub left : HasLeft w first c
+
+-- Cores that were sent have left, whatever had been found first.
+abbrev pub HaveComeBack : WordsSeen → (old new : List CoreSeen) → Type 0
+HaveComeBack w old new = (first : List ℕ) → Each (IsSent w first) old → Each (IsBack w first) new
 
 -- It was sent, whatever had been found first.
 pub record IsAway (w : WordsSeen) (c : CoreSeen) : Type 0 where

@@ -2,8 +2,8 @@
 ghost use Rattle.std.specs.Prelude.{◌≡◌, ◌<◌, ◌≤◌, List, ℕ, length};
 ghost use Rattle.std.specs.List.{range_with_len};
 ghost use Rattle.rand_pcg.specs.Pcg.{pcg32};
-ghost use Rattle.plural_machine.specs.Drawn.{drawn_place, AreRising, AreStaying, HasHadTurn};
-ghost use Rattle.plural_machine.specs.Together.{Each, IsSent, IsBack};
+ghost use Rattle.plural_machine.specs.Drawn.{drawn_place, AreRising, AreStaying, HasHadTurn, HaveHadTurns};
+ghost use Rattle.plural_machine.specs.Together.{Each, IsSent, HaveComeBack};
 
 use arrayvec::ArrayVec;
 use plural_cores::{Core, CoreTurn, Gate};
@@ -81,8 +81,8 @@ pub(crate) fn advance_in_order<G: Gate>(
     requires sync { sync.now ≡ program.now }
     requires few { length cores.old ≤ 64 }
     requires sent { (first : List ℕ) × Each (IsSent words.now first) cores.old }
-    ensures back { (first : List ℕ) → Each (IsSent words.now first) cores.old
-        → Each (IsBack words.now first) cores.new }
+    ensures turns { HaveHadTurns words.now seed cores.old cores.new }
+    ensures back { HaveComeBack words.now cores.old cores.new }
     ensures all { length cores.new ≡ length cores.old }
 {
     let mut rng = Pcg32::seed_from_u64(seed);

@@ -35,7 +35,7 @@ impl Model for Machine {
 }
 
 ghost use Rattle.std.specs.Prelude.{◌≡◌, ◌≤◌, length, IfOk};
-ghost use Rattle.plural_words.specs.Seen.{WordsSeen};
+ghost use Rattle.plural_words.specs.Seen.{opening_of};
 ghost use Rattle.plural_cores.specs.Cores.{IsOpened};
 ghost use Rattle.plural_machine.specs.Together.{Each};
 
@@ -54,9 +54,10 @@ fn cores_of(alloc: Global, program: &Program, count: u32) -> Result<Vec<Core>, M
 
 impl Machine {
     ghost use Rattle.plural_rule.specs.Last.{HasTold};
+    ghost use Rattle.plural_machine.specs.Machines.{HasRunInOrder};
 
-    /// A machine for a program whose map was accepted, over an image, with this many cores. It takes all the memory that
-    /// the machine ever needs.
+    /// A machine for a program whose map was accepted, over an image, with this many cores. It takes all the memory
+    /// that the machine ever needs.
     pub fn open(
         alloc: Global,
         program: &Program,
@@ -67,7 +68,7 @@ impl Machine {
         requires map { accepted.now ≡ program.now.map }
         requires image { length image.now ≡ program.now.map.words }
         requires cores { (1 ≤ cores) × (cores ≤ 64) }
-        ensures { IfOk result (λ m. m.opening ≡ record { program = program.now; image = image.now; cores = cores }) }
+        ensures { IfOk result (λ m. m.opening ≡ opening_of program.now image.now cores) }
     {
         let _words = program.map().words();
         let _entries = program.entries();
@@ -103,12 +104,13 @@ impl Machine {
         take_all(&self.words, &mut self.root, self.cores.as_mut_slice());
     }
 
-    /// Runs the program on one thread. Of the cores that haven't left, in the order of their numbers, the one at the place
-    /// that the next draw modulo their number tells has the next turn; the draws are the words of `Pcg32` made by
-    /// `seed_from_u64` of this seed.
+    /// Runs the program on one thread. Of the cores that haven't left, in the order of their numbers, the one at the
+    /// place that the next draw modulo their number tells has the next turn; the draws are the words of `Pcg32` made
+    /// by `seed_from_u64` of this seed.
     pub fn run_in_order<G: Gate + Sync>(&mut self, program: &Program, gate: &G, seed: u64)
         requires program { program.now ≡ self.old.opening.program }
         ensures opening { self.new.opening ≡ self.old.opening }
+        ensures order { HasRunInOrder self.old.opening seed self.old.root self.new.root }
         ensures told { HasTold self.new.opening self.new.root }
     {
         send_all(&self.words, &mut self.root, self.cores.as_mut_slice());

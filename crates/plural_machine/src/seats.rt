@@ -1,9 +1,9 @@
 //! The seats of all cores: they are sent out by rising number, and come back in the other order.
-ghost use Rattle.std.specs.Prelude.{◌≡◌, ◌≤◌, List, ℕ, [], length};
+ghost use Rattle.std.specs.Prelude.{◌≡◌, ◌≤◌, [], length};
 ghost use Rattle.plural_rule.specs.Last.{HasTold};
 ghost use Rattle.plural_rule.specs.declared.view.Role.TheVariants as role;
-ghost use Rattle.plural_words.specs.Seen.{IsRootOf, root_with};
-ghost use Rattle.plural_machine.specs.Knowing.{numbers_below, with_role};
+ghost use Rattle.plural_words.specs.Seen.{IsRootOf};
+ghost use Rattle.plural_machine.specs.Knowing.{numbers_below, with_out, all_joined};
 ghost use Rattle.plural_machine.specs.Together.{Each, IsIdle, IsSent, IsBack};
 
 use plural_cores::Core;
@@ -16,7 +16,7 @@ pub(crate) fn send_all(words: &Words, root: &mut Root, cores: &mut [Core])
     requires few { (length cores.old ≤ words.now.opening.cores) × (length cores.old ≤ 64) }
     requires idle { Each (IsIdle words.now) cores.old }
     ensures of { IsRootOf words.now root.new }
-    ensures root { root.new ≡ root_with root.old (with_role root.old.view (role.Root (numbers_below (length cores.old)))) }
+    ensures root { root.new ≡ with_out root.old (length cores.old) }
     ensures sent { Each (IsSent words.now root.old.view.found) cores.new }
     ensures all { length cores.new ≡ length cores.old }
 {
@@ -36,6 +36,7 @@ pub(crate) fn take_all(words: &Words, root: &mut Root, cores: &mut [Core])
     ensures of { IsRootOf words.now root.new }
     ensures alone { root.new.view.role ≡ role.Root [] }
     ensures told { HasTold words.now.opening root.new.view }
+    ensures joined { root.new.view ≡ all_joined root.old.view cores.old }
     ensures idle { Each (IsIdle words.now) cores.new }
     ensures all { length cores.new ≡ length cores.old }
 {

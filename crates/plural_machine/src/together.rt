@@ -1,6 +1,6 @@
 //! All cores side by side.
-ghost use Rattle.std.specs.Prelude.{◌≡◌, ◌≤◌, List, ℕ, length};
-ghost use Rattle.plural_machine.specs.Together.{Each, IsSent, IsBack, IsAway, ComesBack};
+ghost use Rattle.std.specs.Prelude.{◌≡◌, List, ℕ, length};
+ghost use Rattle.plural_machine.specs.Together.{Each, IsSent, HaveComeBack, IsAway, ComesBack};
 
 use plural_cores::{Core, Gate};
 use plural_serial::Program;
@@ -21,7 +21,7 @@ pub(crate) fn advance<R: Threads + Sync, G: Gate + Sync>(
     requires program { program.now ≡ words.now.opening.program }
     requires sync { sync.now ≡ program.now }
     requires sent { (first : List ℕ) × Each (IsSent words.now first) cores.old }
-    ensures back { (first : List ℕ) → Each (IsSent words.now first) cores.old → Each (IsBack words.now first) cores.new }
+    ensures back { HaveComeBack words.now cores.old cores.new }
     ensures all { length cores.new ≡ length cores.old }
 {
     let all = cores.len().max(1);

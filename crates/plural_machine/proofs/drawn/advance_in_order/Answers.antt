@@ -1,7 +1,8 @@
-use Rattle.std.proofs.Common.{List, ℕ, length, sym, ◌∙◌, subst}
+use Rattle.std.proofs.Common.{◌≡◌, List, ℕ, suc, length, sym, ap, ◌∙◌, subst}
 use Rattle.std.proofs.lemmas.Bool.{eqb-true, eqb-false}
-use Rattle.plural_machine.specs.Drawn.{AreRising, AreStaying}
-use Rattle.plural_machine.proofs.Staying.{all_rising, all_staying, all_back, turn_staying, turn_rising, turn_falls, drawn_within}
+use Rattle.rand_pcg.specs.Lcg.{Lcg}
+use Rattle.plural_machine.specs.Drawn.{AreRising, AreStaying, AreTurns, drawn, drawn_first, generator_of}
+use Rattle.plural_machine.proofs.Staying.{none_left, all_rising, all_staying, all_back, turn_staying, turn_rising, turn_falls, drawn_within}
 use Rattle.plural_machine.proofs.drawn.advance_in_order.Goals as goal
 
 -- All cores stay.
@@ -11,6 +12,11 @@ loop-rng-init g c =
     record {
       rising = subst (λ (l : List ℕ). AreRising (length c.args.cores.now) l) e (all_rising (length c.args.cores.now));
       staying = λ first sent. subst (λ (l : List ℕ). AreStaying c.args.words.now first l c.args.cores.now) e (all_staying c.args.words.now first c.args.cores.now sent);
+      turns = (
+        0,
+        ap (λ (g : Lcg). drawn g c.all_numbers-staying.result.items c.args.cores.now) c.seed_from_u64-rng.ensures
+            ∙ ap (λ (l : List ℕ). drawn (generator_of c.args.seed) l c.args.cores.now) c.all_numbers-staying.ensures,
+      );
     }
 
 -- Each number is that of a core.
@@ -34,6 +40,20 @@ loop-rng-preserved g c =
     record {
       rising = turn_rising c.args.words.now _ c.loop-rng.staying.items c.next_turn.new.staying.items c.loop-rng.cores c.next_turn.new.cores within c.loop-rng.invariant.rising c.next_turn.ensures.turn;
       staying = λ first sent. turn_staying c.args.words.now first _ c.loop-rng.staying.items c.next_turn.new.staying.items c.loop-rng.cores c.next_turn.new.cores within c.loop-rng.invariant.rising c.next_turn.ensures.turn (c.loop-rng.invariant.staying first sent);
+      turns =
+          let turns = c.loop-rng.invariant.turns in
+          (suc turns.0, (drawn c.loop-rng.rng c.loop-rng.staying.items c.loop-rng.cores, turns.1, record { turn = c.next_turn.ensures.turn; rest = c.next_turn.ensures.rest }));
+    }
+
+-- The turns until none stays are those that the seed draws.
+pub returns-clause-turns : goal.returns-clause-turns
+returns-clause-turns g c =
+    let none : length c.loop-rng.staying.items ≡ 0 = eqb-true (length c.loop-rng.staying.items) 0 (sym c.is_empty.ensures ∙ c.loop-rng-test.false) in
+    let turns = c.loop-rng.invariant.turns in
+    record {
+      count = turns.0;
+      rest = c.loop-rng.rng;
+      turns = subst (λ (l : List ℕ). AreTurns c.args.words.now turns.0 (drawn_first c.args.seed c.args.cores.now) (drawn c.loop-rng.rng l c.loop-rng.cores)) (none_left c.loop-rng.staying.items none) turns.1;
     }
 
 -- None stays: each core has left.

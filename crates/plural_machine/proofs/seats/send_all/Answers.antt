@@ -7,6 +7,7 @@ use Rattle.plural_machine.specs.Knowing.{with_role}
 use Rattle.plural_machine.proofs.Outs.{none_from}
 use Rattle.plural_machine.proofs.seats.send_all.Goals as goal
 
+-- Before the first core no seat is out.
 pub loop-i-init : goal.loop-i-init
 loop-i-init c = (
   c.requires.of,
@@ -16,5 +17,6 @@ loop-i-init c = (
   (λ k d l h. c.requires.idle.at k d h),
 )
 
+-- No seat with this core number is out.
 pub split-seat-requires-clause-away : goal.split-seat-requires-clause-away
 split-seat-requires-clause-away c = ap (λ (r : RootSeen). times c.loop-i.i (outs_of r.view.role)) c.loop-i.invariant.1 ∙ none_from c.loop-i.i c.loop-i.i (omega arith)

@@ -1,4 +1,4 @@
-use Rattle.std.proofs.Common.{◌≡◌, ◌<◌, ◌+◌, ◌-◌, ⊎_elim, inl, inr, ℕ, suc, List, ap, sym, ◌∙◌, refl, subst, arith, length, length-set, slice_index_or, Some, None}
+use Rattle.std.proofs.Common.{◌≡◌, ◌<◌, ◌+◌, ◌-◌, ⊎_elim, inl, inr, ℕ, suc, List, ap, sym, ◌∙◌, refl, subst, arith, length, drop, length-set, slice_index_or, Some, None}
 use Rattle.plural_rule.specs.Last.{KnowsWhole}
 use Rattle.plural_rule.specs.Steps.{joined, back_in}
 use Rattle.plural_rule.specs.Stages.{outs_of}
@@ -8,12 +8,14 @@ use Rattle.plural_rule.specs.declared.view.View.{View}
 use Rattle.plural_words.specs.Seen.{RootSeen, SeatSeen}
 use Rattle.plural_words.specs.Seen.{IsSeatOf}
 use Rattle.plural_cores.specs.Cores.{CoreSeen}
-use Rattle.plural_machine.specs.Knowing.{numbers_below, IsNoLess}
+use Rattle.plural_machine.specs.Knowing.{numbers_below, IsNoLess, all_joined}
 use Rattle.plural_machine.specs.Together.{IsIdle, IsBack}
 use Rattle.plural_machine.proofs.Outs.{last_back, joins_whole}
 use Rattle.plural_machine.proofs.CoreLists.{each_below_stays, each_above_set}
+use Rattle.plural_machine.proofs.Joined.{IsStill, still_first, none_back, one_back}
 use Rattle.plural_machine.proofs.seats.take_all.Goals as goal
 
+-- Before the first seat comes back all are out.
 pub loop-i-init : goal.loop-i-init
 loop-i-init c = (
   c.requires.of,
@@ -24,8 +26,11 @@ loop-i-init c = (
   (λ k d l h. absurd (omega (arith, l, h))),
   inr refl,
   (λ h. absurd (omega (arith, h))),
+  none_back c.args.root.now.view c.args.cores.now,
+  (λ k d h. still_first c.args.cores.now k d h),
 )
 
+-- One seat more has come back.
 pub loop-i-preserved : goal.loop-i-preserved
 loop-i-preserved c =
     let inv = c.loop-i.invariant in
@@ -34,6 +39,8 @@ loop-i-preserved c =
     let next : c.loop-i.i ≡ j + 1 = omega (arith, c.loop-i-test.true) in
     let low : j < length c.loop-i.cores = omega (arith, c.loop-i-test.true, inv.3) in
     let core : CoreSeen = slice_index_or c.loop-i.cores j c.index-cores-i.result in
+    let low_first : j < length c.args.cores.now = omega (arith, low, inv.2) in
+    let still : IsStill c.args.cores.now j core = inv.9 j c.index-cores-i.result (omega (arith, c.loop-i-test.true)) in
     let was : IsBack c.args.words.now c.args.root.now.view.found j core = inv.4 j c.index-cores-i.result (omega (arith, c.loop-i-test.true)) in
     let ready = was.left.ready in
     let given : core.seat ≡ Some c.leave-seat.result = c.leave-seat.ensures.seat in
@@ -64,4 +71,12 @@ loop-i-preserved c =
       each_above_set (IsIdle c.args.words.now) c.loop-i.cores j c.leave-seat.new.self low (λ k d l h. inv.5 k d (omega (arith, l, next)) h) idle,
       inl knows,
       (λ h z. c.join.ensures.told (ap outs_of role_now ∙ ap numbers_below z) knows),
+      now ∙ one_back c.args.root.now.view c.args.cores.now j c.loop-i.i v c.leave-seat.result core next low_first still given inv.8,
+      each_below_stays (IsStill c.args.cores.now) c.loop-i.cores j c.leave-seat.new.self (λ k d h. inv.9 k d (omega (arith, h, next))),
     )
+
+-- The seats of all cores have come back.
+pub returns-clause-joined : goal.returns-clause-joined
+returns-clause-joined c =
+    let none : c.loop-i.i ≡ 0 = omega (arith, c.loop-i-test.false) in
+    c.loop-i.invariant.8 ∙ ap (λ (n : ℕ). all_joined c.args.root.now.view (drop n c.args.cores.now)) none

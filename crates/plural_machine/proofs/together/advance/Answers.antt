@@ -3,6 +3,7 @@ use Rattle.plural_cores.specs.Cores.{CoreSeen, IsReady, HasLeft}
 use Rattle.plural_machine.specs.Together.{ComesBack}
 use Rattle.plural_machine.proofs.together.advance.Goals as goal
 
+-- Each core has left, with its seat.
 pub returns-clause-back : goal.returns-clause-back
 returns-clause-back g c = λ first sent. record {
   at = λ i d h.

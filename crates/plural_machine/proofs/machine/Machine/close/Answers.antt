@@ -5,6 +5,7 @@ use Rattle.plural_rule.specs.declared.view.View.{View}
 use Rattle.plural_machine.specs.Machines.{MachineSeen, IsRunnable}
 use Rattle.plural_machine.proofs.machine.Machine.close.Goals as goal
 
+-- The closed words are those of a whole run.
 pub of-requires-clause-run : goal.of-requires-clause-run
 of-requires-clause-run c =
     let o : Opening = c.close-closed.result.opening in

@@ -9,6 +9,7 @@ use Rattle.plural_machine.specs.Together.{Each}
 use Rattle.plural_machine.specs.Machines.{IsRunnable}
 use Rattle.plural_machine.proofs.machine.Machine.open.Goals as goal
 
+-- The machine is whole, and no seat is out.
 pub invariant_of-result : goal.invariant_of-result
 invariant_of-result c =
     let o : Opening = record { program = c.args.program.now; image = c.args.image.now; cores = c.args.cores } in
