@@ -25,6 +25,15 @@ fn main(rt: HostRuntime) -> ExitCode {
     };
     let mut source = StdSource::new(rt.stdin());
     let mut sink = StdSink::new(rt.stdout());
-    let status = plural(&rt, rt.alloc(), &words, &mut source, &mut sink, &OpenGate);
+    let mut kept = None;
+    let status = plural(
+        &rt,
+        rt.alloc(),
+        &words,
+        &mut source,
+        &mut sink,
+        &OpenGate,
+        &mut kept,
+    );
     ExitCode::from(status)
 }

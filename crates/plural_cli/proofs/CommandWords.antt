@@ -23,7 +23,8 @@ none_twice m n k a b c (inr (inr h)) = omega (arith, c, h)
 run_never : (words cores order : List (List ℕ)) → SomeTwice words cores order → None ≡ run_with words cores order
 run_never [] [] order h = refl
 run_never [] (v ∷ []) [] h = absurd (none_twice 0 1 0 (omega arith) (omega arith) (omega arith) h)
-run_never [] (v ∷ []) (o ∷ os) h = refl
+run_never [] (v ∷ []) (o ∷ []) h = absurd (none_twice 0 1 1 (omega arith) (omega arith) (omega arith) h)
+run_never [] (v ∷ []) (o ∷ p ∷ os) h = refl
 run_never [] (v ∷ w ∷ vs) order h = refl
 run_never (w ∷ ws) cores order h = refl
 
@@ -31,7 +32,9 @@ make_never : (words cores order : List (List ℕ)) → SomeTwice words cores ord
 make_never [] cores order h = refl
 make_never (w ∷ []) [] [] h = absurd (none_twice 1 0 0 (omega arith) (omega arith) (omega arith) h)
 make_never (w ∷ []) [] (o ∷ os) h = refl
-make_never (w ∷ []) (v ∷ vs) order h = refl
+make_never (w ∷ []) (v ∷ []) [] h = absurd (none_twice 1 1 0 (omega arith) (omega arith) (omega arith) h)
+make_never (w ∷ []) (v ∷ []) (o ∷ os) h = refl
+make_never (w ∷ []) (v ∷ x ∷ vs) order h = refl
 make_never (w ∷ x ∷ ws) cores order h = refl
 
 name_never : (name : List ℕ) (words cores order : List (List ℕ)) → SomeTwice words cores order → None ≡ name_alone name words cores order

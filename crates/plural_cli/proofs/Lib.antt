@@ -1,6 +1,11 @@
 pub mod Outcomes
 pub mod LineCounts
 pub mod WordLines
+pub mod RecordSums
+pub mod MadeLengths
+pub mod MadeBundles
+pub mod Faultless
+pub mod Machines
 pub mod WholeInputs
 pub mod LogTasks
 pub mod CommandWords

@@ -21,8 +21,8 @@ instance_text tasks t k = (name_at tasks t ++ codes " ") ++ decimal k
 -- The line for a clash: the two instances and the word.
 abbrev pub clash_text : List TaskValue → (t k u l a : ℕ) → List ℕ
 clash_text tasks t k u l a =
-    (((((codes "clash: " ++ instance_text tasks t k) ++ codes " and ") ++ instance_text tasks u l) ++ codes " at word ")
-    ++ decimal a)
+    (((((codes "clash: " ++ instance_text tasks t k) ++ codes " and ") ++ instance_text tasks u l)
+    ++ codes " at word ") ++ decimal a)
     ++ 10 ∷ []
 
 -- The tasks have a clash: status 4, and the line of the first.

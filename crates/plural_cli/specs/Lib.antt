@@ -13,6 +13,8 @@ pub use Rattle.plural_serial.specs.Serial
 pub use Rattle.plural_serial.specs.Answer as SerialAnswer
 pub use Rattle.plural_trace.specs.SerialLog
 pub use Rattle.plural_trace.specs.Verdicts
+pub use Rattle.plural_trace.specs.Logs
+pub use Rattle.plural_finished.specs.Finishing
 pub use Rattle.plural_reach.specs.Tables
 pub use Rattle.plural_output.specs.Text as OutputText
 pub use Rattle.plural_output.specs.Parts as OutputParts
@@ -24,6 +26,7 @@ pub use Rattle.plural_bundle.specs.Rules as BundleRules
 pub use Rattle.plural_crew.specs.Clashes
 pub use Rattle.plural_bundle.specs.Value
 pub use Rattle.plural_bundle.specs.Answer
+pub use Rattle.plural_made.specs.Laws as MadeLaws
 pub mod Arguments
 pub mod Given
 pub mod Command
@@ -35,6 +38,7 @@ pub mod Lines
 pub mod Reading
 pub mod Check
 pub mod Run
+pub mod Kept
 pub mod Made
 pub mod Joint
 pub mod Verify

@@ -6,7 +6,9 @@ use Rattle.plural_map.specs.Decisions.{is_failed}
 use Rattle.plural_serial.specs.Program.{IsProgram, IsMemory}
 use Rattle.plural_serial.specs.Serial.{serial_of}
 use Rattle.plural_serial.specs.Answer.{AnswerValue, IsSerial}
+use Rattle.plural_trace.specs.Logs.{LogValue, IsLog}
 use Rattle.plural_trace.specs.SerialLog.{serial_log}
+use Rattle.plural_trace.specs.Verdicts.{expected_of, IsLegal}
 use Rattle.plural_output.specs.Text.{output_text}
 use Rattle.plural_bundle.specs.Value.{BundleValue}
 use Rattle.plural_crew.specs.Clashes.{IsAccepted}
@@ -31,11 +33,24 @@ pub record IsRan (b : BundleValue) (status : ℕ) (text : List ℕ) : Type 0 whe
 abbrev pub IsSerialAnswer : (bytes : List ℕ) (status : ℕ) (text : List ℕ) → Type 0
 IsSerialAnswer bytes status text = ToBundle IsRan bytes status text
 
--- A map without a clash is run, and of another the first clash is told.
-abbrev pub IsRunOf : BundleValue → (status : ℕ) (text : List ℕ) → Type 0
-IsRunOf b status text =
-    (IsAccepted b.program.map.tasks × IsRan b status text) ⊎ IsClashing b.program.map.tasks status text
+-- The answer of a run of a program on so many cores. There is a log of this many cores, one of the map, and a last
+-- memory, and the log is legal with it: so the outcomes and the memory are those of the serial run. The status tells
+-- whether a task is failed. The text spells this log and this memory.
+pub record IsRanOn (cores : ℕ) (b : BundleValue) (status : ℕ) (text : List ℕ) : Type 0 where
+  pub log : LogValue
+  pub last : List ℕ
+  pub cores_are : log.cores ≡ cores
+  pub legal : IsLegal (expected_of b.program b.image) log last
+  pub logged : IsLog b.program.map log
+  pub memory : IsMemory b.program.map last
+  pub status_is : status ≡ status_of (serial_of b.program b.image).outcomes
+  pub text_is : text ≡ output_text b.program.map log last
 
--- `run` answers a bundle without a clash by its serial run, and another by its first clash.
-abbrev pub IsRunAnswer : (bytes : List ℕ) (status : ℕ) (text : List ℕ) → Type 0
-IsRunAnswer bytes status text = ToBundle IsRunOf bytes status text
+-- A map without a clash is run, and of another the first clash is told.
+abbrev pub IsRunOf : (cores : ℕ) → BundleValue → (status : ℕ) (text : List ℕ) → Type 0
+IsRunOf cores b status text =
+    (IsAccepted b.program.map.tasks × IsRanOn cores b status text) ⊎ IsClashing b.program.map.tasks status text
+
+-- `run` answers a bundle without a clash by a run on so many cores, and another by its first clash.
+abbrev pub IsRunAnswer : (cores : ℕ) → (bytes : List ℕ) (status : ℕ) (text : List ℕ) → Type 0
+IsRunAnswer cores bytes status text = ToBundle (IsRunOf cores) bytes status text

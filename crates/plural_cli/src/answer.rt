@@ -1,9 +1,10 @@
 //! An answer of a command, and the line that tells a fault.
 
-ghost use Rattle.std.specs.Prelude.{◌≡◌, IfOk};
+ghost use Rattle.std.specs.Prelude.{◌≡◌, None, IfOk};
 ghost use Rattle.plural_cli.specs.FaultLine.{fault_text};
 
 use plural_bytes::Memory;
+use plural_finished::Finished;
 use std::alloc::Global;
 
 /// A status, and the text that is written with it.
@@ -11,6 +12,24 @@ use std::alloc::Global;
 pub(crate) struct Answer {
     pub status: u8,
     pub text: Vec<u8>,
+}
+
+/// An answer, and the machine that it comes from, if it comes from one.
+#[derive(Drop)]
+pub(crate) struct Reply {
+    pub answer: Answer,
+    pub machine: Option<Finished>,
+}
+
+/// An answer that comes from no machine.
+pub(crate) fn alone(answer: Answer) -> Reply
+    ensures answer { result.answer ≡ answer }
+    ensures machine { result.machine ≡ None }
+{
+    Reply {
+        answer,
+        machine: None,
+    }
 }
 
 /// A line, as an answer of status 3.

@@ -2,8 +2,9 @@
 
 ghost use Rattle.std.specs.Prelude.{◌≡◌, ◌<◌, ◌≤◌, length, sum_by, IfOk};
 ghost use Rattle.plural_map.specs.Value.{TaskValue};
+ghost use Rattle.plural_crew.specs.Clashes.{IsFirstClash};
 ghost use Rattle.plural_cli.specs.Output.{IsTold};
-ghost use Rattle.plural_cli.specs.Check.{accepted_text, instance_text, clash_text, IsClashAnswer, IsMapAnswer, IsCheckAnswer};
+ghost use Rattle.plural_cli.specs.Check.{accepted_text, instance_text, clash_text, IsClashing, IsClashAnswer, IsMapAnswer, IsCheckAnswer};
 
 use crate::answer::Answer;
 use crate::reading::{Reading, read};
@@ -14,7 +15,7 @@ use plural_reach::{needs, reach};
 use std::alloc::Global;
 
 /// How many instances tasks have.
-fn instance_count(tasks: &[Task]) -> u32
+pub(crate) fn instance_count(tasks: &[Task]) -> u32
     requires { sum_by (λ (t : TaskValue). t.quota) tasks.now ≤ 65536 }
     ensures { result ≡ sum_by (λ (t : TaskValue). t.quota) tasks.now }
 {
@@ -71,16 +72,24 @@ fn clash_line(alloc: Global, map: &Map, clash: Clash) -> Result<Vec<u8>, Memory>
     Ok(text)
 }
 
+/// The answer that tells the first clash of a map.
+pub(crate) fn clash_told(alloc: Global, map: &Map, clash: Clash) -> Result<Answer, Memory>
+    requires { IsFirstClash map.now.tasks clash.t clash.k clash.u clash.l clash.a }
+    ensures { IfOk result (λ a. IsClashing map.now.tasks a.status a.text.items) }
+{
+    Ok(Answer {
+        status: 4,
+        text: clash_line(alloc, map, clash)?,
+    })
+}
+
 /// The answer that tells the first clash of a map, or nothing if it has none.
 pub(crate) fn clash_answer(alloc: Global, map: &Map) -> Result<Option<Answer>, Memory>
     ensures { IfOk result (IsClashAnswer map.now.tasks) }
 {
     match check(map, &reach(map), &needs(map)) {
         Ok(_) => Ok(None),
-        Err(clash) => Ok(Some(Answer {
-            status: 4,
-            text: clash_line(alloc, map, clash)?,
-        })),
+        Err(clash) => Ok(Some(clash_told(alloc, map, clash)?)),
     }
 }
 

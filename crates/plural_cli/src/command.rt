@@ -1,13 +1,22 @@
 //! The words of a command line.
 
-ghost use Rattle.std.specs.Prelude.{◌≡◌, map};
+ghost use Rattle.std.specs.Prelude.{◌≡◌, map, IfSome};
 ghost use Rattle.std.specs.String.{string_bytes};
+
+/// The order in which the cores of a machine take their steps.
+#[derive(Clone, Copy, Debug, PartialEq, Eq)]
+pub enum Order {
+    /// Whatever order their threads run in.
+    Threads,
+    /// One thread, in which a generator of this seed draws the core that has the next turn.
+    Drawn { seed: u64 },
+}
 
 /// A command that reads an input.
 #[derive(Clone, Copy, Debug, PartialEq, Eq)]
 pub enum Request {
-    /// `run --cores 1`: runs a bundle on one core.
-    Run,
+    /// `run --cores N [--order SEED]`: runs a bundle on 1 to 64 cores.
+    Run { cores: u32, order: Order },
     /// `serial`: runs a bundle as the serial machine does.
     Serial,
     /// `check`: looks for a clash in a bundle's map, and runs nothing.
@@ -27,10 +36,12 @@ pub enum Command {
     Read(Request),
     /// `make SEED`: a bundle is made, and nothing is read.
     Make { seed: u64 },
+    /// `make SEED --cores N`: a bundle is made and run on 1 to 64 cores, and nothing is read.
+    RunMade { seed: u64, cores: u32 },
 }
 
 ghost use Rattle.plural_cli.specs.Given.{kept};
-ghost use Rattle.plural_cli.specs.Command.{number_of, request_of, run_with, make_with, name_alone, command_with, command_of};
+ghost use Rattle.plural_cli.specs.Command.{number_of, IsCoreCount, cores_of, drawn_by, request_of, run_with, make_with, name_alone, command_with, command_of, FitsRequest, FitsCommand};
 
 use crate::arguments::{Given, arguments, is_word};
 use plural_bytes::digits;
@@ -48,26 +59,55 @@ fn number_of(word: &[u8]) -> Option<u64>
     digits(word, 10, LARGEST).ok()
 }
 
-/// `run`: no word of its own, and one core.
-fn run_with(given: Given<'_>) -> Option<Command>
-    ensures { let a = kept given.entry in result ≡ run_with a.words a.cores a.order }
+/// The number of cores that a word spells, 1 to 64.
+fn cores_of(word: &[u8]) -> Option<u32>
+    ensures value { result ≡ cores_of word.now }
+    ensures range { IfSome result IsCoreCount }
 {
-    match given {
-        Given {
-            word: None,
-            cores: Some(value),
-            order: None,
-        } => match number_of(value) {
-            Some(1) => Some(Command::Read(Request::Run)),
-            _ => None,
-        },
+    match number_of(word) {
+        Some(cores) if 1 <= cores && cores <= 64 => Some(cores as u32),
         _ => None,
     }
 }
 
-/// `make`: its seed, and no option.
+/// The order that the seed which a word spells draws.
+fn drawn_by(word: &[u8]) -> Option<Order>
+    ensures { result ≡ drawn_by word.now }
+{
+    match number_of(word) {
+        Some(seed) => Some(Order::Drawn { seed }),
+        None => None,
+    }
+}
+
+/// `run`: no word of its own, a number of cores, and an order if one is asked for.
+fn run_with(given: Given<'_>) -> Option<Command>
+    ensures value { let a = kept given.entry in result ≡ run_with a.words a.cores a.order }
+    ensures fits { IfSome result FitsCommand }
+{
+    let (cores, order) = match given {
+        Given {
+            word: None,
+            cores: Some(value),
+            order: None,
+        } => (cores_of(value), Some(Order::Threads)),
+        Given {
+            word: None,
+            cores: Some(value),
+            order: Some(seed),
+        } => (cores_of(value), drawn_by(seed)),
+        _ => return None,
+    };
+    match (cores, order) {
+        (Some(cores), Some(order)) => Some(Command::Read(Request::Run { cores, order })),
+        _ => None,
+    }
+}
+
+/// `make`: its seed, and a number of cores if what is made is to be run.
 fn make_with(given: Given<'_>) -> Option<Command>
-    ensures { let a = kept given.entry in result ≡ make_with a.words a.cores a.order }
+    ensures value { let a = kept given.entry in result ≡ make_with a.words a.cores a.order }
+    ensures fits { IfSome result FitsCommand }
 {
     match given {
         Given {
@@ -78,13 +118,22 @@ fn make_with(given: Given<'_>) -> Option<Command>
             Some(seed) => Some(Command::Make { seed }),
             None => None,
         },
+        Given {
+            word: Some(seed),
+            cores: Some(value),
+            order: None,
+        } => match (number_of(seed), cores_of(value)) {
+            (Some(seed), Some(cores)) => Some(Command::RunMade { seed, cores }),
+            _ => None,
+        },
         _ => None,
     }
 }
 
 /// The request that a command's name asks for.
 fn request_of(name: &String) -> Option<Request>
-    ensures { result ≡ request_of (string_bytes name.now) }
+    ensures value { result ≡ request_of (string_bytes name.now) }
+    ensures fits { IfSome result FitsRequest }
 {
     if is_word(name, "serial") {
         Some(Request::Serial)
@@ -103,7 +152,8 @@ fn request_of(name: &String) -> Option<Request>
 
 /// Each other command: its name alone.
 fn name_alone(name: &String, given: Given<'_>) -> Option<Command>
-    ensures { let a = kept given.entry in result ≡ name_alone (string_bytes name.now) a.words a.cores a.order }
+    ensures value { let a = kept given.entry in result ≡ name_alone (string_bytes name.now) a.words a.cores a.order }
+    ensures fits { IfSome result FitsCommand }
 {
     match given {
         Given {
@@ -120,7 +170,8 @@ fn name_alone(name: &String, given: Given<'_>) -> Option<Command>
 
 /// The command of a name with these arguments.
 fn command_with(name: &String, given: Given<'_>) -> Option<Command>
-    ensures { result ≡ command_with (string_bytes name.now) (kept given.entry) }
+    ensures value { result ≡ command_with (string_bytes name.now) (kept given.entry) }
+    ensures fits { IfSome result FitsCommand }
 {
     if is_word(name, "run") {
         run_with(given)
@@ -133,7 +184,8 @@ fn command_with(name: &String, given: Given<'_>) -> Option<Command>
 
 /// The command that the words ask for, if they ask for one. Takes no memory.
 pub(crate) fn command_of(words: &[String]) -> Option<Command>
-    ensures { result ≡ command_of (map string_bytes words.now) }
+    ensures value { result ≡ command_of (map string_bytes words.now) }
+    ensures fits { IfSome result FitsCommand }
 {
     match words {
         [name, rest @ ..] => match arguments(rest) {

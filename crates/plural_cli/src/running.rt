@@ -1,14 +1,13 @@
-//! The commands `serial` and `run`: a bundle in, the log and the last memory of its serial run out.
+//! The command `serial`: a bundle in, the log and the last memory of its serial run out.
 
 ghost use Rattle.std.specs.Prelude.{◌≡◌, ◌≤◌, ◌%◌, length, map, Some, IfOk};
 ghost use Rattle.std.specs.List.{list_any};
 ghost use Rattle.plural_map.specs.Decisions.{is_failed};
 ghost use Rattle.plural_serial.specs.Program.{IsProgram};
 ghost use Rattle.plural_cli.specs.Output.{IsTold};
-ghost use Rattle.plural_cli.specs.Run.{status_of, IsRan, IsRunOf, IsSerialAnswer, IsRunAnswer};
+ghost use Rattle.plural_cli.specs.Run.{status_of, IsRan, IsSerialAnswer};
 
 use crate::answer::Answer;
-use crate::checking::clash_answer;
 use crate::reading::{Reading, read};
 use plural_bundle::Bundle;
 use plural_bytes::Memory;
@@ -31,7 +30,7 @@ fn any_failed(outcomes: &[Outcome]) -> bool
 }
 
 /// 1 if a task is failed, else 0.
-fn status_of(outcomes: &[Outcome]) -> u8
+pub(crate) fn status_of(outcomes: &[Outcome]) -> u8
     ensures { result ≡ status_of (map (λ o. Some o) outcomes.now) }
 {
     if any_failed(outcomes) { 1 } else { 0 }
@@ -54,21 +53,6 @@ fn ran(alloc: Global, bundle: &Bundle) -> Result<Answer, Memory>
     })
 }
 
-/// Runs the program of a bundle without a clash, and tells the first clash of another.
-fn checked_and_ran(alloc: Global, bundle: &Bundle) -> Result<Answer, Memory>
-    requires program { IsProgram bundle.now.program }
-    requires words { length bundle.now.image ≡ bundle.now.program.map.words }
-    requires whole { length bundle.now.image % 8 ≡ 0 }
-    requires small { length bundle.now.image ≤ 1048576 }
-    ensures answer { IfOk result (λ a. IsRunOf bundle.now a.status a.text.items) }
-    ensures told { IfOk result (λ a. IsTold a.status) }
-{
-    match clash_answer(alloc, bundle.program.map())? {
-        Some(answer) => Ok(answer),
-        None => ran(alloc, bundle),
-    }
-}
-
 /// The answer of `serial` to an input that is not too long.
 pub(crate) fn serial_answer(alloc: Global, bytes: &[u8]) -> Result<Answer, Memory>
     requires { length bytes.now ≤ 16777216 }
@@ -78,17 +62,5 @@ pub(crate) fn serial_answer(alloc: Global, bytes: &[u8]) -> Result<Answer, Memor
     match read(alloc, bytes)? {
         Reading::Faulty(answer) => Ok(answer),
         Reading::Whole(bundle) => ran(alloc, &bundle),
-    }
-}
-
-/// The answer of `run --cores 1` to an input that is not too long.
-pub(crate) fn run_answer(alloc: Global, bytes: &[u8]) -> Result<Answer, Memory>
-    requires { length bytes.now ≤ 16777216 }
-    ensures answer { IfOk result (λ a. IsRunAnswer bytes.now a.status a.text.items) }
-    ensures told { IfOk result (λ a. IsTold a.status) }
-{
-    match read(alloc, bytes)? {
-        Reading::Faulty(answer) => Ok(answer),
-        Reading::Whole(bundle) => checked_and_ran(alloc, &bundle),
     }
 }

@@ -2,6 +2,8 @@ pub mod OneFault
 pub mod RuleKinds
 pub mod OneClash
 pub mod OneRun
+pub mod BundleAnswers
+pub mod RunStatuses
 pub mod OneAnswer
 pub mod WholeCalls
 pub mod LogText
@@ -9,5 +11,7 @@ pub mod BundleMaps
 pub mod OutputLines
 pub mod TextLengths
 pub mod RunOutputs
+pub mod SameRecords
+pub mod AgreeingRuns
 pub mod LineEnds
 pub mod VerifiedRuns

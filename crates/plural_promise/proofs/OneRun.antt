@@ -21,7 +21,8 @@ use Rattle.plural_promise.proofs.OneFault.{IsOne}
 
 -- ---- the serial run
 
-outcomes_same : (xs ys : List Outcome) → map (λ o. Some o) xs ≡ map (λ o. Some o) ys → xs ≡ ys
+-- Outcomes are the same if they are as ones that are there.
+pub outcomes_same : (xs ys : List Outcome) → map (λ o. Some o) xs ≡ map (λ o. Some o) ys → xs ≡ ys
 outcomes_same [] [] e = refl
 outcomes_same [] (y ∷ ys) e = absurd cc
 outcomes_same (x ∷ xs) [] e = absurd cc

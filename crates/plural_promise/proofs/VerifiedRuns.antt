@@ -1,4 +1,4 @@
--- A bundle and the output of its run in one text, as `verify` judges it.
+-- A bundle and the output of a run of it in one text, as `verify` judges it.
 use Rattle.std.proofs.Common.{◌≡◌, ℕ, ◌+◌, ◌≤◌, false, List, [], ◌∷◌, ◌++◌, length, refl, ap, sym, subst, ◌∙◌, arith, append_assoc, inl}
 use Rattle.std.specs.Prelude.{Ok, Err, codes}
 use Rattle.std.proofs.lemmas.List.{length-append, length-map}
@@ -6,12 +6,11 @@ use Rattle.plural_base.proofs.ListTests.{HasNone, all_append, after_at}
 use Rattle.plural_bytes.specs.Lines.{TextLine, pieces, content_lines}
 use Rattle.plural_sections.specs.declared.fault.Fault.TheVariants as fault
 use Rattle.plural_sections.proofs.Headers.{apart, lines_lack}
-use Rattle.plural_serial.specs.declared.record_.Record.{Record}
 use Rattle.plural_serial.specs.Answer.{record_of}
 use Rattle.plural_serial.specs.Serial.{serial_of}
-use Rattle.plural_trace.specs.SerialLog.{serial_entries, serial_log}
+use Rattle.plural_trace.specs.Logs.{LogValue}
+use Rattle.plural_trace.specs.SerialLog.{serial_log}
 use Rattle.plural_trace.specs.declared.verdict.Verdict.TheVariants as verdict
-use Rattle.plural_trace.proofs.SerialLegal.{serial_is_legal}
 use Rattle.plural_bundle.specs.FirstLine.{first_line}
 use Rattle.plural_bundle.specs.Value.{BundleValue, bundle_of}
 use Rattle.plural_bundle.specs.Answer.{IsBundle}
@@ -29,10 +28,11 @@ use Rattle.plural_cli.proofs.JointLines.{part_at, bundle_splits}
 use Rattle.plural_made.proofs.LineNumbers.{lines_from}
 use Rattle.plural_made.proofs.TextLines.{EndsLine, ends_with, lines_both}
 use Rattle.plural_promise.specs.Outputs.{bundle_in}
-use Rattle.plural_promise.specs.Verified.{IsTheAnswer, EndsWithLine, runs_of, RunIsLegal, SerialIsLegal}
-use Rattle.plural_promise.proofs.OneAnswer.{answer_is_one}
+use Rattle.plural_promise.specs.Verified.{IsTheAnswer, runs_of, IsLegalAfter, RunIsLegal, SerialIsLegal}
+use Rattle.plural_promise.proofs.OneAnswer.{one_verified}
 use Rattle.plural_promise.proofs.OutputLines.{output_read}
-use Rattle.plural_promise.proofs.RunOutputs.{IsRunOf, serial_ran, run_ran, run_fits}
+use Rattle.plural_promise.proofs.RunOutputs.{bundle_fits, IsWritten, serial_written, run_written}
+use Rattle.plural_promise.proofs.SameRecords.{entry_count}
 use Rattle.plural_promise.proofs.TextLengths.{output_length}
 use Rattle.plural_promise.proofs.LineEnds.{same_lines}
 
@@ -88,24 +88,20 @@ answered p out end status text g h =
 
 -- ---- the verdict
 
-entry_count : (i : ℕ) (rs : List Record) → length (serial_entries i rs) ≡ length rs
-entry_count i [] = refl
-entry_count i (r ∷ rs) = let e = entry_count (i + 1) rs in omega (arith, e)
-
-module _ (bytes : List ℕ) (status : ℕ) (text : List ℕ) (start : List ℕ) (ends : EndsLine start) (same : content_lines start ≡ content_lines bytes) (long : length start ≤ length bytes + 1) (accepted : IsAccepted (bundle_in bytes).program.map.tasks) (r : IsRunOf bytes status text) where
+module _ (bytes text : List ℕ) (log : LogValue) (last : List ℕ) (start : List ℕ) (ends : EndsLine start) (same : content_lines start ≡ content_lines bytes) (long : length start ≤ length bytes + 1) (accepted : IsAccepted (bundle_in bytes).program.map.tasks) (w : IsWritten bytes text log last) where
   legal_line : List ℕ
   legal_line = legal_text (runs_of (bundle_in bytes))
 
-  verdict_on : IsVerdictOn (bundle_in bytes) (record { log = serial_log r.ran.run; image = r.ran.run.image }) 0 legal_line
+  verdict_on : IsVerdictOn (bundle_in bytes) (record { log = log; image = last }) 0 legal_line
   unfolding legal_line
   verdict_on =
       let b = bundle_in bytes in
-      let f = run_fits bytes status text r in
-      let many : runs_of b ≡ length (serial_log r.ran.run).entries =
-      sym (entry_count 0 r.ran.run.records ∙ ap length r.ran.serial.records ∙ length-map (serial_of b.program b.image).ran (record_of b.program)) in
-      let judged : IsJudged b (record { log = serial_log r.ran.run; image = r.ran.run.image }) 0 (legal_text (runs_of b)) = record {
+      let f = bundle_fits bytes w.bundle in
+      let many : runs_of b ≡ length log.entries =
+      sym (entry_count b.program b.image f.map log last w.legal ∙ length-map (serial_of b.program b.image).ran (record_of b.program)) in
+      let judged : IsJudged b (record { log = log; image = last }) 0 (legal_text (runs_of b)) = record {
         verdict = verdict.Yes;
-        exact = serial_is_legal b.program b.image r.ran.run f.map r.ran.serial;
+        exact = w.legal;
         status_is = refl;
         text_is = ap legal_text many;
       } in
@@ -113,9 +109,9 @@ module _ (bytes : List ℕ) (status : ℕ) (text : List ℕ) (start : List ℕ) 
 
   short : length (start ++ text) ≤ 67108864
   short =
-      let f = run_fits bytes status text r in
-      let low = output_length (bundle_in bytes).program.map (serial_log r.ran.run) r.ran.run.image f.map f.named f.log r.ran.memory in
-      omega (arith, r.short, low, ap length r.ran.text_is, length-append start text, long)
+      let f = bundle_fits bytes w.bundle in
+      let low = output_length (bundle_in bytes).program.map log last f.map f.named w.logged w.memory in
+      omega (arith, w.bundle.short, low, ap length w.text_is, length-append start text, long)
 
   joined : IsJointAnswer (content_lines (start ++ text)) (line_after (start ++ text)) 0 legal_line
   joined =
@@ -123,15 +119,15 @@ module _ (bytes : List ℕ) (status : ℕ) (text : List ℕ) (start : List ℕ) 
       let n = 1 + length (pieces start) in
       let end = line_after (start ++ text) in
       let out = lines_from n text in
-      let f = run_fits bytes status text r in
+      let f = bundle_fits bytes w.bundle in
       let p = f.parts.parts in
-      let o = output_read b.program.map (serial_log r.ran.run) r.ran.run.image n end f.map f.named f.log r.ran.memory in
+      let o = output_read b.program.map log last n end f.map f.named w.logged w.memory in
       let lines : content_lines (start ++ text) ≡ lines_of p ++ out = lines_both 1 start text ends ∙ ap (λ x. x ++ out) (same ∙ f.parts.whole) in
       let Holds : BundleValue → List TextLine → OutputValue → Type 0 = λ v ls x.
       IsOutput v.program.map.tasks v.program.map.words ls end × IsVerdictOn v x 0 legal_line in
-      let output : IsOutput b.program.map.tasks b.program.map.words out end = subst (λ t. IsOutput b.program.map.tasks b.program.map.words (lines_from n t) end) (sym r.ran.text_is) o.0 in
-      let spelled : output_of b.program.map.tasks b.program.map.words out ≡ record { log = serial_log r.ran.run; image = r.ran.run.image } =
-      ap (λ t. output_of b.program.map.tasks b.program.map.words (lines_from n t)) r.ran.text_is ∙ o.1 in
+      let output : IsOutput b.program.map.tasks b.program.map.words out end = subst (λ t. IsOutput b.program.map.tasks b.program.map.words (lines_from n t) end) (sym w.text_is) o.0 in
+      let spelled : output_of b.program.map.tasks b.program.map.words out ≡ record { log = log; image = last } =
+      ap (λ t. output_of b.program.map.tasks b.program.map.words (lines_from n t)) w.text_is ∙ o.1 in
       let here : Holds b out (output_of b.program.map.tasks b.program.map.words out) = (output, subst (λ (x : OutputValue). IsVerdictOn b x 0 legal_line) (sym spelled) verdict_on) in
       let there = subst (λ (v : BundleValue). Holds v out (output_of v.program.map.tasks v.program.map.words out)) (ap bundle_of f.parts.whole) here in
       subst (λ ls. IsJointAnswer ls end 0 legal_line) (sym lines) (answered p out end 0 legal_line f.parts.good there)
@@ -141,30 +137,25 @@ module _ (bytes : List ℕ) (status : ℕ) (text : List ℕ) (start : List ℕ) 
   unfolding legal_line
   verified =
       let is : IsAnswer request.Verify (start ++ text) 0 (legal_text (runs_of (bundle_in bytes))) = record { too_long = λ l. absurd (omega (arith, l, short)); answered = λ _. joined } in
-      record { is = is; only = λ other words a. answer_is_one request.Verify (start ++ text) other words 0 (legal_text (runs_of (bundle_in bytes))) a is }
+      record { is = is; only = λ other words a. one_verified (start ++ text) other words 0 (legal_text (runs_of (bundle_in bytes))) a is }
 
 -- ---- bundles with a line end, and without
 
--- A bundle that ends with a line end, and the output of its run.
-ended : (bytes : List ℕ) (status : ℕ) (text : List ℕ) → EndsWithLine bytes → IsAccepted (bundle_in bytes).program.map.tasks → IsRunOf bytes status text
-    → IsTheAnswer request.Verify (bytes ++ text) 0 (legal_text (runs_of (bundle_in bytes)))
-ended bytes status text line accepted r =
-    verified bytes status text bytes (subst EndsLine (sym line.1) (ends_with line.0)) refl (omega arith) accepted r
-
--- Any bundle, a line end, and the output of its run.
-apart_by_line : (bytes : List ℕ) (status : ℕ) (text : List ℕ) → IsAccepted (bundle_in bytes).program.map.tasks → IsRunOf bytes status text
-    → IsTheAnswer request.Verify ((bytes ++ 10 ∷ []) ++ text) 0 (legal_text (runs_of (bundle_in bytes)))
-apart_by_line bytes status text accepted r =
-    verified bytes status text (bytes ++ 10 ∷ []) (ends_with bytes) (same_lines bytes) (omega (arith, length-append bytes (10 ∷ []))) accepted r
+-- A bundle that ends with a line end, and any bundle and a line end, each with the output of a run after it.
+legal_after : (bytes text : List ℕ) (log : LogValue) (last : List ℕ) → IsAccepted (bundle_in bytes).program.map.tasks → IsWritten bytes text log last → IsLegalAfter bytes text (runs_of (bundle_in bytes))
+legal_after bytes text log last accepted w = record {
+  together = λ line. verified bytes text log last bytes (subst EndsLine (sym line.1) (ends_with line.0)) refl (omega arith) accepted w;
+  apart = verified bytes text log last (bytes ++ 10 ∷ []) (ends_with bytes) (same_lines bytes) (omega (arith, length-append bytes (10 ∷ []))) accepted w;
+}
 
 -- `verify` of a bundle and what `run` wrote of it.
 pub run_is_legal : RunIsLegal
 run_is_legal bytes status text a l =
-    let h = run_ran bytes status text a l in
-    record { together = λ line. ended bytes status text line h.0 h.1; apart = apart_by_line bytes status text h.0 h.1 }
+    let h = run_written a.cores a.order bytes status text a.answer l in
+    legal_after bytes text h.log h.last h.accepted h.written
 
 -- And of what `serial` wrote of a map without a clash.
 pub serial_output_is_legal : SerialIsLegal
 serial_output_is_legal bytes status text a l accepted =
-    let h = serial_ran bytes status text a l in
-    record { together = λ line. ended bytes status text line accepted h; apart = apart_by_line bytes status text accepted h }
+    let h = serial_written bytes status text a l in
+    legal_after bytes text (serial_log h.run) h.run.image accepted h.written
