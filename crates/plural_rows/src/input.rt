@@ -40,7 +40,8 @@ pub(crate) fn lost_changes(head: &str, text: &str) -> u32 {
 pub(crate) fn spelled(alloc: Global, head: &str) -> Result<String, Memory> {
     let mut out = String::new(alloc);
     for line in head.lines().skip(1) {
-        if !line.starts_with("$ ") && !line.starts_with("% ") {
+        let is_command = line.starts_with("$ ") || line.starts_with("~ ");
+        if !is_command && !line.starts_with("% ") {
             out.push_str(line)?;
             out.push_str("\n")?;
         }

@@ -1,6 +1,7 @@
 //! The rows of a text, one after another.
 
 use crate::input::{changed, lost_changes, spelled};
+use crate::runs::{is_wanted_run, legal_verdict};
 use plural_bytes::{MemSink, MemSource, Memory, put, put_number};
 use plural_cli::{OpenGate, plural};
 use std::alloc::Global;
@@ -33,7 +34,16 @@ fn answer<R: Threads + Sync>(
     let bytes = Vec::from_slice(alloc, input.as_bytes())?;
     let mut source = MemSource::new(bytes, 1000, Vec::new(alloc));
     let mut sink = MemSink::new(alloc, 1_000_000, 10_000, Vec::new(alloc))?;
-    let status = plural(rt, alloc, &words, &mut source, &mut sink, &OpenGate);
+    let mut kept = None;
+    let status = plural(
+        rt,
+        alloc,
+        &words,
+        &mut source,
+        &mut sink,
+        &OpenGate,
+        &mut kept,
+    );
     let mut answer = Vec::new(alloc);
     put_number(&mut answer, status.into())?;
     put(&mut answer, b"\n")?;
@@ -41,9 +51,66 @@ fn answer<R: Threads + Sync>(
     Ok(answer)
 }
 
+/// A command of a row.
+#[derive(Clone, Copy)]
+struct Command<'r> {
+    words: &'r str,
+    /// Whether its text may tell the entries in any order.
+    is_run: bool,
+}
+
+/// The command that a line of a row speaks of; none if it is no command.
+fn command_of(line: &str) -> Option<Command<'_>> {
+    if let Some(words) = line.strip_prefix("$ ") {
+        Some(Command {
+            words,
+            is_run: false,
+        })
+    } else if let Some(words) = line.strip_prefix("~ ") {
+        Some(Command {
+            words,
+            is_run: true,
+        })
+    } else {
+        None
+    }
+}
+
+/// Whether `verify` finds the output of a run legal, which was given this input and was answered so.
+fn is_legal<R: Threads + Sync>(
+    rt: &R,
+    alloc: Global,
+    input: &str,
+    answered: &str,
+) -> Result<bool, Memory> {
+    let mut whole = String::from_str(alloc, input)?;
+    if let Some((_, output)) = answered.split_once("\n") {
+        whole.push_str(output)?;
+        whole.push_str("\n")?;
+    }
+    let verdict = answer(rt, alloc, "verify", &whole)?;
+    Ok(verdict.as_slice() == legal_verdict(alloc, answered)?.as_bytes())
+}
+
 /// Whether an answer is the one that a row wants; the end of its last line isn't in the row's text.
-fn is_wanted(answer: &[u8], want: &str) -> bool {
-    answer.strip_suffix(b"\n") == Some(want.as_bytes())
+fn is_wanted<R: Threads + Sync>(
+    rt: &R,
+    alloc: Global,
+    command: &Command<'_>,
+    input: &str,
+    answer: &[u8],
+    want: &str,
+) -> Result<bool, Memory> {
+    let Some(answer) = answer.strip_suffix(b"\n") else {
+        return Ok(false);
+    };
+    if !command.is_run {
+        return Ok(answer == want.as_bytes());
+    }
+    let Ok(answer) = str::from_utf8(answer) else {
+        return Ok(false);
+    };
+    Ok(is_wanted_run(alloc, command.words, answer, want)? && is_legal(rt, alloc, input, answer)?)
 }
 
 /// Lets the program answer one command of the row with this title.
@@ -52,18 +119,18 @@ fn try_command<R: Threads + Sync>(
     alloc: Global,
     tally: &mut Tally,
     title: &str,
-    command: &str,
+    command: &Command<'_>,
     input: &str,
     want: &str,
 ) -> Result<(), Memory> {
-    let answer = answer(rt, alloc, command, input)?;
+    let answer = answer(rt, alloc, command.words, input)?;
     tally.commands = tally.commands.saturating_add(1);
-    if !is_wanted(&answer, want) {
+    if !is_wanted(rt, alloc, command, input, &answer, want)? {
         tally.others = tally.others.saturating_add(1);
         put(&mut tally.report, b"== ")?;
         put(&mut tally.report, title.as_bytes())?;
         put(&mut tally.report, b"\n$ ")?;
-        put(&mut tally.report, command.as_bytes())?;
+        put(&mut tally.report, command.words.as_bytes())?;
         put(&mut tally.report, b"\n=> ")?;
         put(&mut tally.report, &answer)?;
     }
@@ -89,8 +156,8 @@ fn try_row<R: Threads + Sync>(
     tally.lost = tally.lost.saturating_add(lost_changes(head, before));
     let title = head.lines().next().unwrap_or("");
     for line in head.lines().skip(1) {
-        if let Some(command) = line.strip_prefix("$ ") {
-            try_command(rt, alloc, tally, title, command, input, want)?;
+        if let Some(command) = command_of(line) {
+            try_command(rt, alloc, tally, title, &command, input, want)?;
         }
     }
     match change {

@@ -2,7 +2,8 @@
 //! bytes that a row can't spell, and inputs that are too long for a row.
 //!
 //! A file has the name of the crate that it tests, but for those on the public call: `cut` tries it over inputs that
-//! end too early, `limits` over inputs at their limits, `outside` over sources and sinks that fail. `adapters` has
+//! end too early, `gates` under gates that hold instances, `limits` over inputs at their limits, `orders` in drawn
+//! orders, `outside` over sources and sinks that fail. `adapters` has
 //! readers and writers for the sources and sinks of `plural_bytes`, `told` a bus and a port that tell the store to
 //! come. `trial` is what the tests share.
 //!
@@ -13,17 +14,27 @@
 #[cfg(test)]
 mod adapters;
 #[cfg(test)]
+mod alloc;
+#[cfg(test)]
 mod bytes;
 #[cfg(test)]
 mod cache;
 #[cfg(test)]
+mod cores;
+#[cfg(test)]
 mod cut;
+#[cfg(test)]
+mod gates;
 #[cfg(test)]
 mod generator;
 #[cfg(test)]
 mod limits;
 #[cfg(test)]
+mod machine;
+#[cfg(test)]
 mod map;
+#[cfg(test)]
+mod orders;
 #[cfg(test)]
 mod output;
 #[cfg(test)]

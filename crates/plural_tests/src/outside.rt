@@ -16,7 +16,7 @@ const RUN: &[&str] = &["run", "--cores", "1"];
 #[test]
 fn other_words_leave_the_source_unread(rt: HostRuntime) -> Result<(), Fail> {
     let alloc = rt.alloc();
-    let rows: [&[&str]; 3] = [&[], &["run", "--cores", "2"], &["make", "x"]];
+    let rows: [&[&str]; 3] = [&[], &["run", "--cores", "65"], &["make", "x"]];
     for command in rows {
         let source = MemSource::new(Vec::new(alloc), 1, [0].to_vec(alloc)?);
         let answer = answered_by(&rt, alloc, command, source, open_sink(alloc)?)?;
