@@ -1,13 +1,14 @@
 """The commands: words of the command line and an input give a status and a text.
 
 The words come first, then the length of the input, its faults, the clash, and the run or the
-verdict.  One-core runs answer as the serial run does, after the checker.  The table of words has
-forms that aren't built yet; they are answered as words that aren't in it.
+verdict.  A run on one core answers as the serial run does, after the checker, and one in a drawn
+order has one text.  A run of several cores on threads may come to any text that `cores` allows.
 """
 
 import re
+from typing import Callable, NamedTuple, Optional
 
-from . import bundles, clashes, filter_bundle, kernels, logs, machine, texts
+from . import bundles, clashes, cores, filter_bundle, kernels, logs, machine, texts
 
 USAGE = ("usage: plural run --cores N [--order SEED] | serial | check | asm | dis | "
          "make SEED [--cores N] | verify\n")
@@ -54,10 +55,21 @@ def read_words(words):
     return (command, found) if wanted in found else None
 
 
-def is_built(command, numbers):
-    if command == "run":
-        return numbers == {"--cores": 1}
-    return "--cores" not in numbers
+class Answer(NamedTuple):
+    """A status and a text.  If the text isn't the only one, `departure` says what another has that
+    it may not have, or None; the text is then that of the serial run."""
+
+    status: int
+    text: str
+    departure: Optional[Callable] = None
+
+    def difference(self, status, text):
+        """What is wrong with the program's answer, or None."""
+        if (status, text) == (self.status, self.text.encode()):
+            return None
+        if status != self.status:
+            return "the status"
+        return self.departure(text) if self.departure else "the text"
 
 
 def clash_text(task_map, clash):
@@ -66,34 +78,51 @@ def clash_text(task_map, clash):
     return f"clash: {one} {k} and {other} {l} at word {word}\n"
 
 
-def run_answer(bundle):
+def status_of(run):
+    return 1 if "failed" in run.outcomes else 0
+
+
+def serial_answer(bundle):
     run = machine.serial(bundle.program, bundle.image)
     text = logs.output_text(bundle.program.map, logs.serial_log(run), run.image)
-    return (1 if "failed" in run.outcomes else 0), text
+    return Answer(status_of(run), text)
+
+
+def run_answer(bundle, count, seed):
+    """The answer of a run on so many cores: in the order of a seed, or on threads if it is None."""
+    task_map = bundle.program.map
+    run = machine.serial(bundle.program, bundle.image)
+    if seed is not None:
+        log = cores.drawn_log(bundle.program, run, count, seed)
+        return Answer(status_of(run), logs.output_text(task_map, log, run.image))
+    text = logs.output_text(task_map, logs.serial_log(run), run.image)
+    if count == 1:
+        return Answer(status_of(run), text)
+    return Answer(status_of(run), text, lambda it: cores.departure(bundle, run, count, it))
 
 
 def check_answer(task_map):
     instances = sum(task.quota for task in task_map.tasks)
-    return 0, f"accepted: tasks {len(task_map.tasks)} instances {instances}\n"
+    return Answer(0, f"accepted: tasks {len(task_map.tasks)} instances {instances}\n")
 
 
 def verify_answer(bundle, log, last):
     failed = logs.verdict(bundle.program, bundle.image, log, last)
     if failed is None:
-        return 0, f"legal: entries {len(log.entries)}\n"
+        return Answer(0, f"legal: entries {len(log.entries)}\n")
     rule, place = failed
-    return 8, f"not legal: rule {rule} at {place}\n"
+    return Answer(8, f"not legal: rule {rule} at {place}\n")
 
 
 def lines_answer(command, text):
     lines = texts.content_lines(text)
     if command == "asm":
         code, _ = kernels.assemble(lines)
-        return 0, "".join(f"{word:08x}\n" for word in code)
-    return 0, "".join(kernels.word_text(word) + "\n" for word in kernels.read_words(lines))
+        return Answer(0, "".join(f"{word:08x}\n" for word in code))
+    return Answer(0, "".join(kernels.word_text(word) + "\n" for word in kernels.read_words(lines)))
 
 
-def read_and_answer(command, text):
+def read_and_answer(command, numbers, text):
     """The answer of a command that reads; raises the first fault."""
     if command in ("asm", "dis"):
         return lines_answer(command, text)
@@ -102,29 +131,34 @@ def read_and_answer(command, text):
     else:
         bundle = bundles.bundle(text)
     if command == "serial":
-        return run_answer(bundle)
+        return serial_answer(bundle)
     clash = clashes.first_clash(bundle.program.map)
     if clash is not None:
-        return 4, clash_text(bundle.program.map, clash)
+        return Answer(4, clash_text(bundle.program.map, clash))
     if command == "check":
         return check_answer(bundle.program.map)
     if command == "run":
-        return run_answer(bundle)
+        return run_answer(bundle, numbers["--cores"], numbers.get("--order"))
     return verify_answer(bundle, log, last)
 
 
+def made_answer(numbers):
+    made = filter_bundle.made_line if "--cores" in numbers else filter_bundle.made_text
+    return Answer(0, made(numbers["seed"]))
+
+
 def answer(words, text):
-    """The status and the text of the program on words and an input, both as bytes."""
+    """The answer of the program to words and an input, both as bytes."""
     read = read_words(words)
-    if read is None or not is_built(*read):
-        return 2, USAGE
+    if read is None:
+        return Answer(2, USAGE)
     command, numbers = read
     if command == "make":
-        return 0, filter_bundle.made_text(numbers["seed"])
+        return made_answer(numbers)
     limit = 67108864 if command == "verify" else 16777216
     if len(text) > limit:
-        return 3, f"fault: input longer than {limit} bytes\n"
+        return Answer(3, f"fault: input longer than {limit} bytes\n")
     try:
-        return read_and_answer(command, text)
+        return read_and_answer(command, numbers, text)
     except texts.Fault as fault:
-        return 3, f"fault: line {fault.line}: {fault.kind}\n"
+        return Answer(3, f"fault: line {fault.line}: {fault.kind}\n")

@@ -99,14 +99,24 @@ def bundle(text):
     return found
 
 
+def read_output(lines, task_map):
+    """The log and the last image of an output that ends the text."""
+    section = lines.section()
+    log = logs.read_log(task_map, section, lines.next_number())
+    lines.header(b"[image]")
+    last = images.read_image(lines.section(), task_map.words)
+    lines.header(b"[end]")
+    lines.nothing_more()
+    return log, last
+
+
+def output(task_map, text):
+    """The log and the last image of an output that stands alone; raises its first fault."""
+    return read_output(Lines(text), task_map)
+
+
 def joint(text):
     """The bundle, the log and the last image of the input of `verify`."""
     lines = Lines(text)
     found = read_bundle(lines)
-    section = lines.section()
-    log = logs.read_log(found.program.map, section, lines.next_number())
-    lines.header(b"[image]")
-    last = images.read_image(lines.section(), found.program.map.words)
-    lines.header(b"[end]")
-    lines.nothing_more()
-    return found, log, last
+    return found, *read_output(lines, found.program.map)

@@ -1,40 +1,14 @@
 """The bundle that `make` writes: a filter, a maximum over two levels and a branch.
 
-The text has holes for the sizes of a small and a large filter; `make` fills in the large one.  Its
-image is drawn by the generator PCG32 (64 bits of state, XSH RR output), which is seeded from one
-64-bit number as the `rand_core` crate does it: four outputs of a second, fixed PCG32 sequence, the
-state moved on before each, are the state and the increment.
+The text has holes for the sizes of a small and a large filter; `make` fills in the large one, whose
+image is drawn by PCG32 of the seed.  With `--cores` it writes a line on the run of that bundle.
 """
 
+import functools
+import itertools
 import re
 
-from . import images
-
-MULTIPLIER = 6364136223846793005
-SEEDING_INCREMENT = 11634580027462260723
-MASK = 2**64 - 1
-
-
-def output(state):
-    shifted = ((state >> 18 ^ state) >> 27) & 0xFFFFFFFF
-    turn = state >> 59
-    return (shifted >> turn | shifted << (32 - turn)) & 0xFFFFFFFF
-
-
-def draws(seed, count):
-    """The first words of the generator made from a seed."""
-    state = seed
-    parts = []
-    for _ in range(4):
-        state = (state * MULTIPLIER + SEEDING_INCREMENT) & MASK
-        parts.append(output(state))
-    first, increment = parts[0] | parts[1] << 32, parts[2] | parts[3] << 32 | 1
-    state = ((first + increment) * MULTIPLIER + increment) & MASK
-    words = []
-    for _ in range(count):
-        words.append(output(state))
-        state = (state * MULTIPLIER + increment) & MASK
-    return words
+from . import bundles, images, machine, pcg
 
 
 def holes(instances, words, taps, filtered, outputs, shift, partial):
@@ -168,9 +142,21 @@ def small_text():
 
 
 def made_text(seed):
-    drawn = draws(seed, 16416)
+    drawn = list(itertools.islice(pcg.words(seed), 16416))
     image = [0] * LARGE["W"]
     image[:16399] = [word % 4096 for word in drawn[:16399]]
     image[16400:16416] = [1 + word % 16 for word in drawn[16399:16415]]
     image[LARGE["LIM"]] = drawn[16415] % 1048576
     return bundle_text(LARGE, image)
+
+
+@functools.lru_cache
+def made_line(seed):
+    """The line on the run of the bundle of a seed, which is the same on any number of cores."""
+    bundle = bundles.bundle(made_text(seed).encode())
+    run = machine.serial(bundle.program, bundle.image)
+    instances = sum(task.quota for task in bundle.program.map.tasks)
+    instructions = sum(record.instructions for record in run.records)
+    stores = sum(record.stores for record in run.records)
+    return (f"made: instances {instances} ran {len(run.records)} instructions {instructions}"
+            f" stores {stores} best {run.image[LARGE['BEST']]} result {run.image[LARGE['DONE']]}\n")

@@ -139,8 +139,12 @@ def overlap(one, other):
 
 def verdict(program, start, log, last):
     """None if the log and the last image are legal, else the rule and the place."""
-    run = machine.serial(program, start)
-    before = maps.predecessors(program.map)
+    return failed_rule(program.map, machine.serial(program, start), log, last)
+
+
+def failed_rule(task_map, run, log, last):
+    """The same, beside a serial run."""
+    before = maps.predecessors(task_map)
     entries = log.entries
     n = len(entries)
     ran = {(record.t, record.k): record for record in run.records}

@@ -1,7 +1,7 @@
 """The kinds of random input, each with how often it's made and how it is made."""
 
 from .. import bundles, clashes, filter_bundle, machine, texts
-from . import command_lines, drafts, kernel_lines, mutations, outputs, spelling
+from . import command_lines, drafts, kernel_lines, mutations, outputs, sharing, spelling
 
 READERS = [[b"serial"], [b"run", b"--cores", b"1"], [b"check"]]
 
@@ -54,14 +54,26 @@ def any_draft(rng):
     return rng.choice([drafts.regions_draft] * 5 + [drafts.limits_draft])(rng)
 
 
+CORES = [b"1"] * 2 + [b"2"] * 6 + [b"3"] * 6 + [b"8"] * 4 + [b"64"]
+
+
+def run_words(rng):
+    """The words for a run on some cores, half of them in a drawn order."""
+    words = [b"run", b"--cores", rng.choice(CORES)]
+    if rng.random() < 0.5:
+        seed = rng.choice([0, 1, 2**64 - 1, rng.randrange(100), rng.randrange(2**64)])
+        words += [b"--order", str(seed).encode()]
+    return words
+
+
 def plain_text(draft):
     return "".join(line + "\n" for line in draft.lines()).encode()
 
 
-def accepted_draft(rng):
+def accepted_draft(rng, makers=((drafts.draft, 7), (drafts.branches_draft, 3))):
     """A small draft, mostly one without a clash."""
     while True:
-        made = drafts.draft(rng) if rng.random() < 0.7 else drafts.branches_draft(rng)
+        made = rng.choices(*zip(*makers))[0](rng)
         read = bundles.bundle(plain_text(made))
         if clashes.first_clash(read.program.map) is None or rng.random() < 0.02:
             return made
@@ -73,6 +85,13 @@ def text_of(rng, draft):
 
 def whole_bundles(rng):
     return rng.choice(READERS), text_of(rng, drafts.draft(rng))
+
+
+def runs_on_cores(rng):
+    makers = ((drafts.draft, 4), (drafts.branches_draft, 2), (drafts.computing_draft, 1),
+              (drafts.caching_draft, 1), (sharing.sharing_draft, 8))
+    made = accepted_draft(rng, makers)
+    return run_words(rng), text_of(rng, made) if rng.random() < 0.2 else plain_text(made)
 
 
 def bundles_at_budgets(rng):
@@ -230,6 +249,10 @@ def generated_bundles(rng):
     return [b"make", str(seed).encode()], b""
 
 
+def generated_counts(rng):
+    return [b"make", str(rng.randrange(4)).encode(), b"--cores", rng.choice(CORES)], b""
+
+
 def generated_runs(rng):
     """A generated bundle, or the small filter, run as it is or with another number in it."""
     made = filter_bundle.made_text(rng.randrange(2**64)) if rng.random() < 0.2 else \
@@ -253,6 +276,7 @@ def odd_bytes(rng):
 
 KINDS = {
     whole_bundles: 20,
+    runs_on_cores: 20,
     bundles_at_budgets: 5,
     computing_bundles: 6,
     operating_bundles: 6,
@@ -278,5 +302,6 @@ KINDS = {
     words_of_command_lines: 5,
     generated_bundles: 0.3,
     generated_runs: 0.1,
+    generated_counts: 0.02,
     odd_bytes: 2,
 }
