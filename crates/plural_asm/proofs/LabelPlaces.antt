@@ -72,6 +72,15 @@ pub noted_false : (old : Option ℕ) (place : ℕ) → noted old false place ≡
 noted_false None place = refl
 noted_false (Some p) place = refl
 
+-- A map in which a label that had a place was put, and then its first place again, knows what was known.
+pub noted_again : (old between new : Option ℕ) (name q : List ℕ) (place first : ℕ) → between ≡ cond (is_eq (slice_cmp nat_cmp name q)) (Some place) old → new ≡ cond (is_eq (slice_cmp nat_cmp name q)) (Some first) between
+    → (bytes_eq name q ≡ true → old ≡ Some first) → new ≡ noted old (bytes_eq name q) place
+noted_again old between new name q place first b e had = e ∙ rw (b, is_eq-slice_cmp name q) (by (bytes_eq name q) had)
+  where
+    by : (t : Bool) → (t ≡ true → old ≡ Some first) → cond t (Some first) (cond t (Some place) old) ≡ noted old t place
+    by true h = rw (h refl) refl
+    by false h = sym (noted_false old place)
+
 -- What is known after one more line.
 pub known_more : (xs : List Line) (i : ℕ) (d : Line) (q : List ℕ) (old : Option ℕ) (here : Bool) (place : ℕ) → i < length xs → old ≡ place_of (text_lines (take i xs)) q → place ≡ place_after (text_lines (take i xs))
     → is_option (label_of (get_or xs i d).text.now) q ≡ here → noted old here place ≡ place_of (text_lines (take (i + 1) xs)) q

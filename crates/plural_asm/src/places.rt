@@ -52,10 +52,14 @@ fn note(places: &mut BTreeMap<Name, u64>, name: Name, place: u64) -> Result<(), 
     ensures { IfOk result (λ _. (q : List ℕ) → get_by (λ k. slice_cmp nat_cmp q k) places.new
         ≡ noted (get_by (λ k. slice_cmp nat_cmp q k) places.old) (bytes_eq name q) place) }
 {
-    if !places.contains_key(&name) {
-        places.insert(name, place)?;
+    match places.insert(name, place)? {
+        None => Ok(()),
+        // The label has a place, which it keeps.
+        Some(first) => {
+            places.insert(name, first)?;
+            Ok(())
+        }
     }
-    Ok(())
 }
 
 /// Notes the label of a line, if it has one.

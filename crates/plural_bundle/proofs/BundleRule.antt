@@ -40,6 +40,7 @@ map_rank map_kind.Number = refl
 map_rank map_kind.Name = refl
 map_rank map_kind.Count = refl
 map_rank (map_kind.Outside k) = refl
+map_rank (map_kind.Cycle names) = refl
 
 -- And a kernel line's.
 pub kernel_rank : (k : AsmKind) → rank (kernel_fault k) ≡ kernels.rank k
@@ -53,10 +54,6 @@ kernel_rank asm_kind.Reach = refl
 pub image_rank : (k : ImageKind) → rank (image_fault k) ≡ image.rank k
 image_rank image_kind.Form = refl
 image_rank image_kind.Address = refl
-
--- The line that closes the map's section has no fault but of form as a map line.
-pub only_form : (version : ℕ) (labels : List (List ℕ)) (all before : List TextLine) (k : MapKind) → map.Breaks version labels all before [] k → map_fault k ≡ fault.Form
-only_form version labels all before k b = ap map_fault b.0
 
 -- ---- the first two lines
 

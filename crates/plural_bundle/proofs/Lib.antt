@@ -4,3 +4,4 @@ pub mod ReadBundle
 pub mod ValueOfBundle
 pub mod BundleParts
 pub mod UpToEnd
+pub mod Versions

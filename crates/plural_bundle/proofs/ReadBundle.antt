@@ -1,20 +1,24 @@
 -- A bundle that was read up to here, and what its next lines mean for the whole.
-use Rattle.std.proofs.Common.{◌≡◌, ℕ, List, [], ◌++◌, refl, ap, sym, subst, ◌∙◌}
-use Rattle.std.specs.Prelude.{codes}
-use Rattle.plural_base.proofs.ListTests.{none_before}
+use Rattle.std.proofs.Common.{◌≡◌, ℕ, false, Option, Some, None, List, [], ◌∷◌, ◌++◌, refl, ap, sym, subst, ◌∙◌, inl, inr}
+use Rattle.std.specs.Prelude.{codes, MatchOption}
+use Rattle.plural_base.proofs.ListTests.{none_before, all_back}
 use Rattle.plural_bytes.specs.Lines.{TextLine}
 use Rattle.plural_sections.specs.declared.line_error.LineError.{LineError}
-use Rattle.plural_sections.specs.Faults.{IsFaultless, closed}
+use Rattle.plural_sections.specs.declared.line_error.LineError.TheVariants.{At, Memory}
+use Rattle.plural_sections.specs.Faults.{IsFaultless, IsFirstFault, closed}
 use Rattle.plural_sections.specs.Errors.{Tells, renamed}
 use Rattle.plural_sections.specs.Sections.{closes, up_to_header}
 use Rattle.plural_sections.specs.Borders.{head_of, IsClosed, IsHeaded, IsMissing, AllBlank, IsLeftOver}
-use Rattle.plural_sections.proofs.FirstFaults.{last_none}
+use Rattle.plural_sections.proofs.FirstFaults.{last_none, last_first}
 use Rattle.plural_sections.proofs.Closings.{NoneCloses}
-use Rattle.plural_sections.proofs.Stages.{Stage, stage_next, section_tells, section_missing, whole_section_tells, past_none, past_first}
+use Rattle.plural_sections.proofs.Stages.{Stage, stage_next, section_tells, section_missing, whole_section_form, whole_section_due, past_none, past_first}
 use Rattle.plural_map_text.specs.Rules as map
 use Rattle.plural_map_text.specs.Rules.{IsMapText}
 use Rattle.plural_map_text.specs.Parts.{map_of}
 use Rattle.plural_map_text.specs.declared.fault.MapKind.{MapKind}
+use Rattle.plural_map_text.specs.declared.fault.MapKind.TheVariants as map_kind
+use Rattle.plural_map_text.specs.declared.line.MapLine.{MapLine}
+use Rattle.plural_map_text.specs.Shape.{shape_of}
 use Rattle.plural_map.specs.Value.{MapValue}
 use Rattle.plural_asm.specs.Rules as asm
 use Rattle.plural_asm.specs.Labels.{names_of}
@@ -26,14 +30,15 @@ use Rattle.plural_image.specs.Image.{image_of}
 use Rattle.plural_image.specs.declared.fault.ImageKind.{ImageKind}
 use Rattle.plural_serial.specs.Program.{ProgramValue}
 use Rattle.plural_sections.specs.declared.fault.Fault.{Fault}
+use Rattle.plural_sections.specs.declared.fault.Fault.TheVariants as fault
 use Rattle.plural_bundle.specs.Sections.{map_lines, kernel_lines, image_lines}
 use Rattle.plural_bundle.specs.FirstLine.{IsBegun}
 use Rattle.plural_map_text.specs.Kinds.{map_fault}
 use Rattle.plural_asm.specs.Kinds.{kernel_fault}
 use Rattle.plural_image.specs.Kinds.{image_fault}
-use Rattle.plural_bundle.specs.Answer.{IsBundle, Faults}
+use Rattle.plural_bundle.specs.Answer.{IsBundle, Faults, IsMapTold}
 use Rattle.plural_bundle.specs.Value.{program_with, program_of, bundle_of}
-use Rattle.plural_bundle.proofs.BundleRule.{only_form, bundle_rule, stage_map, map_part, kernel_part, image_part, past_sections}
+use Rattle.plural_bundle.proofs.BundleRule.{bundle_rule, stage_map, map_part, kernel_part, image_part, past_sections}
 use Rattle.plural_bundle.proofs.BundleSections.{map_is, kernels_is, image_is}
 
 -- ---- how far the lines were read
@@ -86,6 +91,18 @@ at_image a g h o w s = record { at_kernels = a; good = g; header = h; own = o; w
 
 -- ---- the map's section
 
+-- No map line has a cycle, which is a fault of the line that closes the section alone.
+no_cycle : (version : ℕ) (labels : List (List ℕ)) (all maps : List TextLine) (line : ℕ) (names : List (List ℕ)) → NoneCloses maps → IsFirstFault map.rank (map.Breaks version labels all) maps line (map_kind.Cycle names) → ⊥
+no_cycle version labels all maps line names none f = by f.text (all_back (λ l. closes l.1 ≡ false) f.before ((line, f.text) ∷ f.after) (subst NoneCloses f.whole none)).0 f.breaks
+  where
+    shaped : (o : Option MapLine) → MatchOption o (map_kind.Cycle names ≡ map_kind.Form) (λ s. ⊥) → ⊥
+    shaped None e = absurd cc
+    shaped (Some s) e = e
+
+    by : (text : List ℕ) → closes text ≡ false → map.Breaks version labels all f.before text (map_kind.Cycle names) → ⊥
+    by [] c b = absurd cc
+    by (c ∷ cs) s b = shaped (shape_of (c ∷ cs)) b
+
 module _ {input all r1 r2 maps back : List TextLine} {labels : List (List ℕ)} {version : ℕ} (a : AtMap input all r1 r2 maps back labels version) where
   map_none : NoneCloses maps
   map_none = subst NoneCloses (sym a.own) (none_before (λ l. closes l.1) r2)
@@ -99,12 +116,39 @@ module _ {input all r1 r2 maps back : List TextLine} {labels : List (List ℕ)} 
       last_none (map.Breaks version (names_of (kernel_lines input)) (map_lines all)) maps (number, [])
       (subst (λ l. IsFaultless (map.Breaks version l (map_lines all)) (closed maps number)) a.names (subst (λ x. IsFaultless (map.Breaks version labels x) (closed maps number)) (sym map_own) good))
 
-  -- The map's first fault is that of the bundle.
-  pub map_faults : (end number : ℕ) (e : LineError MapKind) → number ≡ (head_of back end).0 → map.Faults version labels maps number e → Faults input all end (renamed map_fault e)
-  map_faults end number e at f =
-      whole_section_tells (stage_map input a.begun a.header) (map_part input a.begun a.header) (λ before text f. refl) (only_form version (names_of (kernel_lines input)) (map_lines all))
-      maps back end number map_none a.whole a.shut at e
-      (subst (λ l. Tells map.rank (map.Breaks version l (map_lines all)) (closed maps number) e) a.names (subst (λ x. Tells map.rank (map.Breaks version labels x) (closed maps number) e) (sym map_own) f))
+  map_own_faults : (number : ℕ) (e : LineError MapKind) → map.Faults version labels maps number e → Tells map.rank (map.Breaks version (names_of (kernel_lines input)) (map_lines all)) (closed maps number) e
+  map_own_faults number e f = subst (λ l. Tells map.rank (map.Breaks version l (map_lines all)) (closed maps number) e) a.names (subst (λ x. Tells map.rank (map.Breaks version labels x) (closed maps number) e) (sym map_own) f)
+
+  -- A first fault of the map's lines that isn't a cycle is that of the bundle.
+  form_told : (end number line : ℕ) (kind : MapKind) → number ≡ (head_of back end).0 → (map.Breaks version (names_of (kernel_lines input)) (map_lines all) maps [] kind → map_fault kind ≡ fault.Form)
+      → map.Faults version labels maps number (At line kind) → Faults input all end (At line (map_fault kind))
+  form_told end number line kind at only f =
+      whole_section_form (stage_map input a.begun a.header) (map_part input a.begun a.header) (λ before text f. refl) maps back end number map_none a.whole a.shut at line kind only (map_own_faults number (At line kind) f)
+
+  -- A cycle is that of the bundle, if the header of the kernels follows.
+  cycle_told : (end number line : ℕ) (names : List (List ℕ)) (more : List TextLine) → number ≡ (head_of back end).0 → IsHeaded (codes "[kernels]") back more
+      → map.Faults version labels maps number (At line (map_kind.Cycle names)) → Faults input all end (At line (fault.Cycle names))
+  cycle_told end number line names more at b f =
+      whole_section_due (stage_map input a.begun a.header) (map_part input a.begun a.header) (λ before text f. refl) refl maps back more end number map_none a.whole b at line (map_kind.Cycle names)
+      (map_own_faults number (At line (map_kind.Cycle names)) f)
+
+  -- Else the line that stands in its place has a fault of form.
+  cycle_missing : (end number line : ℕ) (names : List (List ℕ)) (e : LineError Fault) → IsMissing (codes "[kernels]") back end e → map.Faults version labels maps number (At line (map_kind.Cycle names)) → Faults input all end e
+  cycle_missing end number line names e m f = elim (last_first map.rank (map.Breaks version (names_of (kernel_lines input)) (map_lines all)) maps (number, []) line (map_kind.Cycle names) (map_own_faults number (At line (map_kind.Cycle names)) f)) [
+    | inl first ↦ absurd (no_cycle version (names_of (kernel_lines input)) (map_lines all) maps line names map_none first)
+    | inr last ↦ section_missing (stage_map input a.begun a.header) (map_part input a.begun a.header) maps back end map_none a.whole last.0 a.shut e m
+  ]
+
+  -- What the map's first fault is told as is that of the bundle.
+  pub map_faults : (end number : ℕ) (e : LineError MapKind) (error : LineError Fault) → number ≡ (head_of back end).0 → map.Faults version labels maps number e → IsMapTold back end e error → Faults input all end error
+  map_faults end number Memory error at f t = subst (Faults input all end) (sym t) tt
+  map_faults end number (At line map_kind.Form) error at f t = subst (Faults input all end) (sym t) (form_told end number line map_kind.Form at (λ b. refl) f)
+  map_faults end number (At line map_kind.Number) error at f t = subst (Faults input all end) (sym t) (form_told end number line map_kind.Number at (λ b. absurd b) f)
+  map_faults end number (At line map_kind.Name) error at f t = subst (Faults input all end) (sym t) (form_told end number line map_kind.Name at (λ b. absurd b) f)
+  map_faults end number (At line map_kind.Count) error at f t = subst (Faults input all end) (sym t) (form_told end number line map_kind.Count at (λ b. absurd b) f)
+  map_faults end number (At line (map_kind.Outside k)) error at f t = subst (Faults input all end) (sym t) (form_told end number line (map_kind.Outside k) at (λ b. absurd b) f)
+  map_faults end number (At line (map_kind.Cycle names)) error at f (inl m) = cycle_missing end number line names error m f
+  map_faults end number (At line (map_kind.Cycle names)) error at f (inr h) = subst (Faults input all end) (sym h.1) (cycle_told end number line names h.0.0 at h.0.1 f)
 
   -- What stands in the place of the header of the kernels is the first fault.
   pub kernels_missing : (end number : ℕ) → IsMapText version labels maps number → (e : LineError Fault) → IsMissing (codes "[kernels]") back end e → Faults input all end e

@@ -1,17 +1,18 @@
--- The first line of a bundle: `plural` and the number of the form's version, of which only 1 is read.
-use Rattle.std.specs.Prelude.{ℕ, ◌≡◌, List, [], ◌∷◌, Option, Some, None, Result, Ok, Err, codes, bytes_eq, if◌then◌else◌, ◌==◌}
+-- The first line of a bundle: `plural` and the number of the form's version, which is 1 or 2.
+use Rattle.std.specs.Prelude.{ℕ, ◌≡◌, List, [], ◌∷◌, Option, Some, None, Result, Ok, Err, codes, bytes_eq, if◌then◌else◌}
 use Rattle.plural_bytes.specs.Lines.{TextLine, tokens}
 use Rattle.plural_bytes.specs.Numerals.{numeral}
+use Rattle.plural_sections.specs.Numbers.{is_within}
 use Rattle.plural_sections.specs.declared.line_error.LineError.{LineError}
 use Rattle.plural_sections.specs.declared.line_error.LineError.TheVariants.{At}
 use Rattle.plural_sections.specs.Borders.{head_of}
 use Rattle.plural_sections.specs.declared.fault.Fault.{Fault}
 use Rattle.plural_sections.specs.declared.fault.Fault.TheVariants as fault
 
--- A version that is read, or its fault: form if it is no numeral, number if it isn't 1.
+-- A version that is read, or its fault: form if it is no numeral, number if it is neither 1 nor 2.
 abbrev pub version_read : Option ℕ → Result ℕ Fault
 version_read None = Err fault.Form
-version_read (Some n) = if n == 1 then Ok n else Err fault.Number
+version_read (Some n) = if is_within 1 2 n then Ok n else Err fault.Number
 
 -- The tokens `plural` and a version tell this version; others have a fault of form.
 abbrev pub version_told : List (List ℕ) → Result ℕ Fault

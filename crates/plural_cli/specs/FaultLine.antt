@@ -1,5 +1,5 @@
 -- The line that tells the first fault of an input.
-use Rattle.std.specs.Prelude.{ℕ, ◌≡◌, List, [], ◌∷◌, ◌++◌, codes}
+use Rattle.std.specs.Prelude.{ℕ, ◌≡◌, List, [], ◌∷◌, ◌++◌, codes, flat_map}
 use Rattle.std.specs.Fmt.{decimal}
 use Rattle.plural_bytes.specs.Lines.{TextLine}
 use Rattle.plural_sections.specs.Faults.{IsFirstFault}
@@ -16,7 +16,12 @@ kind_text kinds.Name = codes "name"
 kind_text kinds.Count = codes "count"
 kind_text kinds.Reach = codes "reach"
 
--- The word for a fault of a bundle. A region that lies outside is told with the instance.
+-- Names, each after a space.
+abbrev pub names_text : List (List ℕ) → List ℕ
+names_text names = flat_map (λ name. 32 ∷ name) names
+
+-- The word for a fault of a bundle. A region that lies outside is told with the instance, a cycle with the names of its
+-- tasks in its order.
 abbrev pub bundle_fault_text : Fault → List ℕ
 bundle_fault_text fault.Form = codes "form"
 bundle_fault_text fault.Number = codes "number"
@@ -25,6 +30,7 @@ bundle_fault_text fault.Count = codes "count"
 bundle_fault_text fault.Reach = codes "reach"
 bundle_fault_text fault.Address = codes "address"
 bundle_fault_text (fault.Outside k) = codes "outside " ++ decimal k
+bundle_fault_text (fault.Cycle names) = codes "cycle" ++ names_text names
 
 -- `fault: line L: ` with the word for the fault, and a line end.
 abbrev pub fault_text : ℕ → List ℕ → List ℕ

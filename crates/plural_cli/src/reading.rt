@@ -1,13 +1,13 @@
 //! An input that has to be a bundle.
 
-ghost use Rattle.std.specs.Prelude.{◌≡◌, ◌≤◌, length, IfOk};
+ghost use Rattle.std.specs.Prelude.{◌≡◌, ◌≤◌, ◌++◌, length, IfOk, OnOk};
 ghost use Rattle.plural_bytes.specs.Spelled.{text_lines};
-ghost use Rattle.plural_cli.specs.FaultLine.{bundle_fault_text, fault_text};
+ghost use Rattle.plural_cli.specs.FaultLine.{bundle_fault_text, fault_text, names_text};
 ghost use Rattle.plural_cli.specs.Reading.{IsReading, IsReadingOf};
 
 use crate::answer::{Answer, fault_answer};
 use plural_bundle::{Bundle, BundleError, Fault, read_bundle};
-use plural_bytes::{Line, Memory, line_count, split};
+use plural_bytes::{Line, Memory, Name, line_count, put, split};
 use std::alloc::Global;
 
 /// What an input is that has to be a bundle.
@@ -17,6 +17,17 @@ pub(crate) enum Reading {
     Whole(Bundle),
     /// No bundle: the answer that tells its first fault.
     Faulty(Answer),
+}
+
+/// Appends names to `word`, each after a space.
+fn put_names(word: &mut Vec<u8>, names: &[Name]) -> Result<(), Memory>
+    ensures { OnOk result (word.new.items ≡ word.old.items ++ names_text names.now) }
+{
+    for name in names {
+        put(word, b" ")?;
+        put(word, name.bytes())?;
+    }
+    Ok(())
 }
 
 /// The word for a fault of a bundle.
@@ -34,6 +45,10 @@ fn fault_word(alloc: Global, fault: Fault) -> Result<Vec<u8>, Memory>
         Fault::Outside { k } => {
             word.extend_from_slice(b"outside ")?;
             word.extend_from_slice(k.to_string(alloc)?.as_bytes())?;
+        }
+        Fault::Cycle { names } => {
+            word.extend_from_slice(b"cycle")?;
+            put_names(&mut word, names.list())?;
         }
     }
     Ok(word)

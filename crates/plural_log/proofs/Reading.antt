@@ -1,6 +1,6 @@
 -- Reading log lines one after the other.
-use Rattle.std.proofs.Common.{◌≡◌, ℕ, ◌+◌, ◌-◌, ◌<◌, ◌≤◌, false, leb, Some, None, Option, List, [], ◌∷◌, ◌++◌, length, take, get_or, refl, ap, sym, subst, ◌∙◌, arith}
-use Rattle.std.specs.Prelude.{MatchOption, ⊤}
+use Rattle.std.proofs.Common.{◌≡◌, ℕ, suc, ◌+◌, ◌-◌, ◌<◌, ◌≤◌, Bool, true, false, leb, Some, None, Option, List, [], ◌∷◌, ◌++◌, length, take, get_or, refl, ap, sym, subst, ◌∙◌, arith}
+use Rattle.std.specs.Prelude.{MatchOption, ⊤, bytes_eq}
 use Rattle.std.specs.List.{All}
 use Rattle.std.proofs.lemmas.Bool.{not-false, and_parts, eqb-true, leb-true, leb-false, lt-ltb, false_from_ne_true, both_ways}
 use Rattle.std.proofs.lemmas.List.Elements.{All-push}
@@ -12,7 +12,7 @@ use Rattle.plural_sections.specs.Faults.{IsFaultless, IsFirstFault, closed}
 use Rattle.plural_sections.specs.LineKinds.{HasNone, IsLeast, BreaksBy}
 use Rattle.plural_sections.proofs.FirstFaults.{length_before}
 use Rattle.plural_sections.proofs.ReadLines as reading
-use Rattle.plural_map_text.proofs.TaskLimits.{number_below}
+use Rattle.plural_map.specs.Lookup.{number_of, has_task}
 use Rattle.plural_map.specs.Value.{TaskValue}
 use Rattle.plural_trace.specs.declared.entry.Entry.{Entry}
 use Rattle.plural_log.specs.declared.line.LogLine.{LogLine}
@@ -54,6 +54,15 @@ fine_task tasks n entries text None f = tt
 fine_task tasks n entries text (Some s) f = f.2
 
 -- ---- what the reader knows after some lines
+
+-- If a task has the name, its number is below the count.
+number_below : (name : List ℕ) (ts : List TaskValue) → has_task ts name ≡ true → number_of name ts < length ts
+number_below name [] e = absurd cc
+number_below name (t ∷ ts) e = by_first (bytes_eq t.name name) refl (number_below name ts)
+  where
+    by_first : (b : Bool) → bytes_eq t.name name ≡ b → (has_task ts name ≡ true → number_of name ts < length ts) → number_of name (t ∷ ts) < suc (length ts)
+    by_first true f later = rw f (omega arith)
+    by_first false f later = let l : number_of name ts < length ts = later (rw f at e) in rw f (omega arith)
 
 -- The outcomes and entries that n lines give, for this many tasks.
 pub record IsCounted (tasks n : ℕ) (log : LogValue) : Type 0 where

@@ -1,6 +1,6 @@
 -- Lines of the same texts have the same faults and spell the same, whatever their numbers are.
 use Rattle.std.proofs.Common.{◌≡◌, ℕ, ◌+◌, Bool, true, false, List, [], ◌∷◌, ◌++◌, length, map, refl, ap, sym, subst, ◌∙◌}
-use Rattle.std.specs.Prelude.{fold, replicate, IsSomeAnd, MatchOption}
+use Rattle.std.specs.Prelude.{fold, replicate, IsSomeAnd, MatchOption, flat_map}
 use Rattle.std.specs.Option.{option_map_or}
 use Rattle.std.proofs.lemmas.List.{length-map, map-append}
 use Rattle.plural_bytes.specs.Lines.{TextLine, has_text, pieces, content, content_from}
@@ -8,11 +8,10 @@ use Rattle.plural_sections.specs.Faults.{IsFaultless, closed}
 use Rattle.plural_map_text.specs.Rules as map_rules
 use Rattle.plural_map_text.specs.Rules.{HasKind}
 use Rattle.plural_map_text.specs.Shape.{shape_of}
-use Rattle.plural_map_text.specs.Parts.{parts_of, whole, map_of, with_line, nothing}
-use Rattle.plural_map_text.specs.declared.fault.MapKind as map_fault
+use Rattle.plural_map_text.specs.Parts.{task_names, name_told, parts_of, whole, map_of, with_line, nothing}
 use Rattle.plural_map_text.specs.declared.fault.MapKind.TheVariants as map_kind
 use Rattle.plural_image.specs.Shape.{image_line}
-use Rattle.plural_sections.specs.LineKinds.{KindsOf, ClosesEarly}
+use Rattle.plural_sections.specs.LineKinds.{KindsOf}
 use Rattle.plural_image.specs.Image as image
 use Rattle.plural_image.specs.Image.{end_of, end_before, IsMisplaced, overwritten, image_of}
 use Rattle.plural_image.specs.declared.fault.ImageKind.TheVariants as image_kind
@@ -69,31 +68,38 @@ length_again lines others e = sym (length-map lines (λ l. l.1)) ∙ ap length e
 -- ---- map lines
 
 -- Lines of the same texts spell the same parts of a map.
-parts_again : (lines others : List TextLine) → texts lines ≡ texts others → parts_of lines ≡ parts_of others
-parts_again lines others e = fold_again (λ p text. option_map_or (with_line p) (shape_of text) p) nothing lines others e
+parts_again : (names : List (List ℕ)) (lines others : List TextLine) → texts lines ≡ texts others → parts_of names lines ≡ parts_of names others
+parts_again names lines others e = fold_again (λ p text. option_map_or (with_line names p) (shape_of text) p) nothing lines others e
+
+names_of_texts : (lines : List TextLine) → task_names lines ≡ flat_map (λ t. name_told (shape_of t)) (texts lines)
+names_of_texts [] = refl
+names_of_texts (l ∷ ls) = ap (λ ns. name_told (shape_of l.1) ++ ns) (names_of_texts ls)
+
+-- The names of their task lines are the same.
+names_again : (lines others : List TextLine) → texts lines ≡ texts others → task_names lines ≡ task_names others
+names_again lines others e = names_of_texts lines ∙ ap (flat_map (λ t. name_told (shape_of t))) e ∙ sym (names_of_texts others)
 
 -- Lines of the same texts spell the same map.
 pub map_again : (lines others : List TextLine) → texts lines ≡ texts others → map_of lines ≡ map_of others
-map_again lines others e = ap whole (parts_again lines others e)
+map_again lines others e = ap (λ ns. whole (parts_of ns lines)) (names_again lines others e) ∙ ap whole (parts_again (task_names others) lines others e)
 
 -- The rule of map lines reads texts alone.
 pub map_reads : (labels : List (List ℕ)) (all : List TextLine) → ReadsTexts (map_rules.Breaks 1 labels all)
-map_reads labels all before other [] kind e b = subst (λ n. ClosesEarly map_kind.Form 2 n kind) (length_again before other e) b
+map_reads labels all before other [] kind e b =
+    let many = length_again before other e in
+    let parts = parts_again (task_names all) before other e in
+    subst (λ X. X) (λ i. map_rules.EndKind 1 (length all) (many i) (parts i) kind) b
 map_reads labels all before other (c ∷ cs) kind e b =
     let many = length_again before other e in
-    let parts = parts_again before other e in
-    subst (λ X. X) (λ i. MatchOption (shape_of (c ∷ cs)) (kind ≡ map_kind.Form) (λ s. HasKind labels (many i) (parts i) s kind)) b
+    let parts = parts_again (task_names all) before other e in
+    subst (λ X. X) (λ i. MatchOption (shape_of (c ∷ cs)) (kind ≡ map_kind.Form) (λ s. HasKind 1 labels (task_names all) (many i) (parts i) s kind)) b
 
--- By version 1 all lines of the section play no part.
-all_apart : (labels : List (List ℕ)) (all every before : List TextLine) (text : List ℕ) (kind : map_fault.MapKind) → map_rules.Breaks 1 labels all before text kind → map_rules.Breaks 1 labels every before text kind
-all_apart labels all every before [] kind b = b
-all_apart labels all every before (c ∷ cs) kind b = b
-
--- So lines without a fault have none, whichever those are.
-pub faultless_apart : (labels : List (List ℕ)) (all every lines : List TextLine) → IsFaultless (map_rules.Breaks 1 labels all) lines → IsFaultless (map_rules.Breaks 1 labels every) lines
-faultless_apart labels all every lines f = record {
-  none = λ n k h. f.none n k (record { before = h.before; text = h.text; after = h.after; whole = h.whole; breaks = all_apart labels every all h.before h.text k h.breaks });
-}
+-- Of all lines of the section it reads the texts alone, too.
+pub faultless_apart : (labels : List (List ℕ)) (all every lines : List TextLine) → texts all ≡ texts every → IsFaultless (map_rules.Breaks 1 labels all) lines → IsFaultless (map_rules.Breaks 1 labels every) lines
+faultless_apart labels all every lines e f =
+    let names = names_again all every e in
+    let many = length_again all every e in
+    subst (λ X. X) (λ i. IsFaultless (map_rules.BreaksIn 1 labels (names i) (many i)) lines) f
 
 -- Lines of the same texts have the same texts with the line that closes them.
 pub closed_again : (lines others : List TextLine) (end last : ℕ) → texts lines ≡ texts others → texts (closed lines end) ≡ texts (closed others last)

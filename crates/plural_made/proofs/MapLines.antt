@@ -97,7 +97,7 @@ entries = all_by (HasEntry kernel_labels) (λ t. has kernel_labels t.entry) (λ 
 pub map_good : (labels : List (List ℕ)) (end : ℕ) → labels ≡ kernel_labels → IsMapText 1 labels maps end
 map_good labels end e =
     let ls = content_lines (map_text made_map) in
-    faultless_apart labels ls maps (closed maps end)
+    faultless_apart labels ls maps (closed maps end) (lines_again 1 3 (map_text made_map))
     (faultless_again (Breaks 1 labels ls) (closed ls end) (closed maps end) (map_reads labels ls) (closed_again ls maps end end (lines_again 1 3 (map_text made_map)))
     (map_round_trip made_map labels end made_within made_version1 (subst (λ names. All (HasEntry names) made_map.tasks) (sym e) entries)).0)
 

@@ -1,6 +1,6 @@
 -- The limits of a task of the map so far, and of all its tasks and one more.
-use Rattle.std.proofs.Common.{◌≡◌, ℕ, suc, ◌+◌, ◌<◌, ◌≤◌, Bool, true, false, Some, None, Option, List, [], ◌∷◌, ◌++◌, length, map, sum, get_or, refl, ap, sym, subst, ◌∙◌, ⊎_elim, arith}
-use Rattle.std.specs.Prelude.{◌≢◌, ◌||◌, ◌==◌, ⊤, MatchOption, bytes_eq, nat_le}
+use Rattle.std.proofs.Common.{◌≡◌, ℕ, ◌+◌, ◌<◌, ◌≤◌, Bool, true, false, Some, None, Option, List, [], ◌∷◌, ◌++◌, length, map, sum, get_or, refl, ap, sym, subst, ◌∙◌, ⊎_elim, arith}
+use Rattle.std.specs.Prelude.{◌≢◌, ◌||◌, ◌==◌, if◌then◌else◌, ⊤, MatchOption, bytes_eq, nat_le}
 use Rattle.std.specs.List.{All, AllPairs, list_any}
 use Rattle.std.specs.Option.{option_map_or, option_to_list}
 use Rattle.std.proofs.Math.Bool.{or-false}
@@ -18,9 +18,9 @@ use Rattle.plural_regions.specs.Bounds.{AllInside}
 use Rattle.plural_regions.proofs.Regions.{in_from_test}
 use Rattle.plural_map.specs.declared.outcome.Dep.{Dep}
 use Rattle.plural_map.specs.declared.outcome.When.{When}
-use Rattle.plural_map.specs.Value.{TaskValue, with_dep, with_region}
+use Rattle.plural_map.specs.Value.{TaskValue, with_dep, with_region, with_some}
 use Rattle.plural_map.specs.Limits.{IsTask}
-use Rattle.plural_map.specs.Lookup.{number_of, has_task}
+use Rattle.plural_map.specs.Lookup.{has_task}
 use Rattle.plural_map_text.specs.Rules.{has_dep}
 
 -- ---- tests
@@ -37,15 +37,6 @@ none_from_any {X = X} p xs e = λ k d h. by_test k d h (p (get_or xs k d)) refl
 texts_differ : (a b : List ℕ) → bytes_eq a b ≡ false → a ≢ b
 texts_differ a b e = not_from_Decides (bytes_eq a b) (bytes_eq-Decides a b) e
 
--- If a task has the name, its number is below the count.
-pub number_below : (name : List ℕ) (ts : List TaskValue) → has_task ts name ≡ true → number_of name ts < length ts
-number_below name [] e = absurd cc
-number_below name (t ∷ ts) e = by_first (bytes_eq t.name name) refl (number_below name ts)
-  where
-    by_first : (b : Bool) → bytes_eq t.name name ≡ b → (has_task ts name ≡ true → number_of name ts < length ts) → number_of name (t ∷ ts) < suc (length ts)
-    by_first true f later = rw f (omega arith)
-    by_first false f later = let l : number_of name ts < length ts = later (rw f at e) in rw f (omega arith)
-
 -- ---- one task
 
 -- The numbers of a task's line are in their ranges.
@@ -56,37 +47,41 @@ pub record HasNumbers (dup : Bool) (quota budget : ℕ) : Type 0 where
   pub budget_low : 1 ≤ budget
   pub budget_high : budget ≤ 100000000
 
--- The i-th task of a map is within all limits of a task and depends on tasks before it alone.
-pub record IsDeclared (words i : ℕ) (t : TaskValue) : Type 0 where
+-- The numbers of the tasks that the i-th of a section with so many task lines may depend on lie below this one.
+abbrev pub bound : (version total i : ℕ) → ℕ
+bound version total i = if version == 2 then total else i
+
+-- The i-th task of a map is within all limits of a task and depends on tasks alone that it may depend on.
+pub record IsDeclared (version total words i : ℕ) (t : TaskValue) : Type 0 where
   pub numbers : HasNumbers t.dup t.quota t.budget
   pub few_deps : length t.deps ≤ 16
-  pub before : All (λ d. d.task < i) t.deps
+  pub before : All (λ d. d.task < bound version total i) t.deps
   pub deps_differ : AllPairs (λ d e. d.task ≢ e.task) t.deps
   pub few_regions : length t.regions ≤ 8
   pub inside : (k a : ℕ) → k < t.quota → may_read t.regions k a ≡ true → a < words
 
 -- It is a task of the map.
-pub task_from_declared : (words i : ℕ) (tasks : List TaskValue) (t : TaskValue) → i < length tasks → IsDeclared words i t → IsTask words tasks t
-task_from_declared words i tasks t h d = record {
+pub task_from_declared : (version total words i : ℕ) (tasks : List TaskValue) (t : TaskValue) → bound version total i ≤ length tasks → IsDeclared version total words i t → IsTask words tasks t
+task_from_declared version total words i tasks t h d = record {
   quota_low = d.numbers.quota_low;
   quota_high = d.numbers.quota_high;
   regular = d.numbers.regular;
   budget_low = d.numbers.budget_low;
   budget_high = d.numbers.budget_high;
   few_deps = d.few_deps;
-  deps_within = All-weaker (λ (p : Dep). p.task < i) (λ (p : Dep). p.task < length tasks) (λ p l. omega arith) t.deps d.before;
+  deps_within = All-weaker (λ (p : Dep). p.task < bound version total i) (λ (p : Dep). p.task < length tasks) (λ p l. omega arith) t.deps d.before;
   deps_differ = d.deps_differ;
   few_regions = d.few_regions;
   inside = d.inside;
 }
 
--- One more dependency, on a task before that it doesn't depend on yet, keeps it so.
-pub dep_added : (words i : ℕ) (t : TaskValue) (number : ℕ) (when : When) → IsDeclared words i t → number < i → has_dep number t ≡ false → nat_le 16 (length t.deps) ≡ false
-    → IsDeclared words i (with_dep (record { task = number; when = when }) t)
-dep_added words i t number when d l new room = record {
+-- One more dependency, on a task that it may depend on and doesn't yet, keeps it so.
+pub dep_added : (version total words i : ℕ) (t : TaskValue) (number : ℕ) (when : When) → IsDeclared version total words i t → number < bound version total i → has_dep number t ≡ false → nat_le 16 (length t.deps) ≡ false
+    → IsDeclared version total words i (with_dep (record { task = number; when = when }) t)
+dep_added version total words i t number when d l new room = record {
   numbers = d.numbers;
   few_deps = omega (arith, length_push t.deps dep, leb-false 16 (length t.deps) room);
-  before = All-push (λ (p : Dep). p.task < i) t.deps dep d.before l;
+  before = All-push (λ (p : Dep). p.task < bound version total i) t.deps dep d.before l;
   deps_differ = all_pairs_push (λ (d e : Dep). d.task ≢ e.task) t.deps dep d.deps_differ (λ k x h. eqb-false (get_or t.deps k x).task number (none_from_any (λ (p : Dep). p.task == number) t.deps new k x h));
   few_regions = d.few_regions;
   inside = d.inside;
@@ -104,8 +99,8 @@ read_more rs r k a words old new m = by_old (may_read rs k a) refl (sym (list_an
     by_old false e f = new (in_from_test r k a (sym (or-false (is_in r k a)) ∙ (rw e at f)))
 
 -- One more region inside the memory keeps it so.
-pub region_added : (words i : ℕ) (t : TaskValue) (r : Region) → IsDeclared words i t → AllInside r t.quota words → nat_le 8 (length t.regions) ≡ false → IsDeclared words i (with_region r t)
-region_added words i t r d inside room = record {
+pub region_added : (version total words i : ℕ) (t : TaskValue) (r : Region) → IsDeclared version total words i t → AllInside r t.quota words → nat_le 8 (length t.regions) ≡ false → IsDeclared version total words i (with_region r t)
+region_added version total words i t r d inside room = record {
   numbers = d.numbers;
   few_deps = d.few_deps;
   before = d.before;
@@ -113,6 +108,10 @@ region_added words i t r d inside room = record {
   few_regions = omega (arith, length_push t.regions r, leb-false 8 (length t.regions) room);
   inside = λ k a h m. read_more t.regions r k a words (d.inside k a h) (inside k h a) m;
 }
+
+-- `join some` keeps it so.
+pub some_added : (version total words i : ℕ) (t : TaskValue) → IsDeclared version total words i t → IsDeclared version total words i (with_some t)
+some_added version total words i t d = record { numbers = d.numbers; few_deps = d.few_deps; before = d.before; deps_differ = d.deps_differ; few_regions = d.few_regions; inside = d.inside }
 
 -- ---- tasks, and one more
 
@@ -137,18 +136,18 @@ names_all ts None n new = rw (append-nil ts) n
 names_all ts (Some t) n new = all_pairs_push (λ (t u : TaskValue). t.name ≢ u.name) ts t n new
 
 -- Each is within the limits of its place, if the current one is.
-pub declared_all : (words : ℕ) (ts : List TaskValue) (o : Option TaskValue) → ((i : ℕ) (d : TaskValue) → i < length ts → IsDeclared words i (get_or ts i d)) → MatchOption o ⊤ (IsDeclared words (length ts))
-    → (i : ℕ) (d : TaskValue) → i < length (ts ++ option_to_list o) → IsDeclared words i (get_or (ts ++ option_to_list o) i d)
-declared_all words ts None each new i d h = let l : i < length ts = omega (arith, length_all ts None) in rw (append-nil ts) (each i d l)
-declared_all words ts (Some t) each new i d h = ⊎_elim earlier last (cases_lt i (length ts))
+pub declared_all : (version total words : ℕ) (ts : List TaskValue) (o : Option TaskValue) → ((i : ℕ) (d : TaskValue) → i < length ts → IsDeclared version total words i (get_or ts i d)) → MatchOption o ⊤ (IsDeclared version total words (length ts))
+    → (i : ℕ) (d : TaskValue) → i < length (ts ++ option_to_list o) → IsDeclared version total words i (get_or (ts ++ option_to_list o) i d)
+declared_all version total words ts None each new i d h = let l : i < length ts = omega (arith, length_all ts None) in rw (append-nil ts) (each i d l)
+declared_all version total words ts (Some t) each new i d h = ⊎_elim earlier last (cases_lt i (length ts))
   where
-    earlier : i < length ts → IsDeclared words i (get_or (ts ++ t ∷ []) i d)
+    earlier : i < length ts → IsDeclared version total words i (get_or (ts ++ t ∷ []) i d)
     earlier l = rw (get_or_append_left ts (t ∷ []) d i l) (each i d l)
 
-    last : length ts ≤ i → IsDeclared words i (get_or (ts ++ t ∷ []) i d)
+    last : length ts ≤ i → IsDeclared version total words i (get_or (ts ++ t ∷ []) i d)
     last l =
         let e : length ts ≡ i = omega (arith, length_push ts t) in
-        rw (get_or_at ts t [] d i e) (subst (λ (n : ℕ). IsDeclared words n t) e new)
+        rw (get_or_at ts t [] d i e) (subst (λ (n : ℕ). IsDeclared version total words n t) e new)
 
 -- A name that neither a task before the current one nor the current one has is new among all.
 pub new_name_all : (name : List ℕ) (ts : List TaskValue) (o : Option TaskValue) → has_task ts name ≡ false → option_map_or (λ t. bytes_eq t.name name) o false ≡ false → All (λ e. e.name ≢ name) (ts ++ option_to_list o)

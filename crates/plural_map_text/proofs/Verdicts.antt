@@ -27,6 +27,7 @@ not_outside p (line.Memory words) k i o = o
 not_outside p (line.Cache sets ways) k i o = o
 not_outside p (line.Task name kind entry budget) k i o = o
 not_outside p (line.After name when) k i o = o
+not_outside p line.Join k i o = o
 not_outside p (line.Region mode base stride count) k i o = by_task p.current i o
   where
     by_task : (t : Option TaskValue) → IsInsideAt (record p { current = t }) (line.Region mode base stride count) → IsOutsideAt (record p { current = t }) (line.Region mode base stride count) k → ⊥
@@ -34,10 +35,11 @@ not_outside p (line.Region mode base stride count) k i o = by_task p.current i o
     by_task (Some t) i o = inside_has_none (region_of mode base stride count) t.quota p.words k i o
 
 -- A line that passes all tests has no fault.
-pub no_kind : (labels : List (List ℕ)) (n : ℕ) (p : Parts) (s : MapLine) → is_out_of_place n p s ≡ false → is_out_of_range s ≡ false → is_misnamed labels p s ≡ false → is_too_many p s ≡ false → IsInsideAt p s
-    → (k : MapKind) → HasKind labels n p s k → ⊥
-no_kind labels n p s a b c d i kinds.Form h = both_ways _ a h
-no_kind labels n p s a b c d i kinds.Number h = both_ways _ b h
-no_kind labels n p s a b c d i kinds.Name h = both_ways _ c h
-no_kind labels n p s a b c d i kinds.Count h = both_ways _ d h
-no_kind labels n p s a b c d i (kinds.Outside k) h = not_outside p s k i h
+pub no_kind : (version : ℕ) (labels names : List (List ℕ)) (n : ℕ) (p : Parts) (s : MapLine) → is_out_of_place version n p s ≡ false → is_out_of_range version s ≡ false → is_misnamed version labels names p s ≡ false → is_too_many version p s ≡ false
+    → IsInsideAt p s → (k : MapKind) → HasKind version labels names n p s k → ⊥
+no_kind version labels names n p s a b c d i kinds.Form h = both_ways _ a h
+no_kind version labels names n p s a b c d i kinds.Number h = both_ways _ b h
+no_kind version labels names n p s a b c d i kinds.Name h = both_ways _ c h
+no_kind version labels names n p s a b c d i kinds.Count h = both_ways _ d h
+no_kind version labels names n p s a b c d i (kinds.Outside k) h = not_outside p s k i h
+no_kind version labels names n p s a b c d i (kinds.Cycle cycle) h = h

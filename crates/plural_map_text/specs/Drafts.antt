@@ -4,4 +4,5 @@ use Rattle.plural_map_text.specs.Parts.{Parts}
 
 -- A reader's fields as parts.
 abbrev pub draft_parts : Draft → Parts
-draft_parts d = record { words = d.words; sets = d.sets; ways = d.ways; earlier = d.earlier.items; current = d.current }
+draft_parts d =
+    record { words = d.words; sets = d.sets; ways = d.ways; earlier = d.earlier.items; current = d.current }

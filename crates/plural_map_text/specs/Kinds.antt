@@ -11,3 +11,4 @@ map_fault kinds.Number = fault.Number
 map_fault kinds.Name = fault.Name
 map_fault kinds.Count = fault.Count
 map_fault (kinds.Outside k) = fault.Outside k
+map_fault (kinds.Cycle names) = fault.Cycle names

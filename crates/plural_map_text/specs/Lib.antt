@@ -6,12 +6,15 @@ pub use Rattle.plural_regions.specs.Bounds
 pub use Rattle.plural_map.specs.Value
 pub use Rattle.plural_map.specs.Lookup
 pub use Rattle.plural_map.specs.Order
+pub use Rattle.plural_map.specs.Cycle
 pub use Rattle.plural_map.specs.Limits
 pub mod Shape
 pub mod RegionOf
 pub mod Parts
+pub mod Places
 pub mod Rules
 pub mod Verdicts
 pub mod Drafts
+pub mod Near
 pub mod Print
 pub mod Kinds

@@ -58,6 +58,11 @@ abbrev pub after_line : List (List ℕ) → Option MapLine
 after_line (n ∷ w ∷ []) = option_and_then (λ name. option_map (λ when. line.After name when) (when_of w)) (name_of n)
 after_line ts = None
 
+-- join some
+abbrev pub join_line : List (List ℕ) → Option MapLine
+join_line (w ∷ []) = if bytes_eq w (codes "some") then Some line.Join else None
+join_line ts = None
+
 -- read BASE STRIDE COUNT, write BASE STRIDE COUNT
 abbrev pub region_line : Mode → List (List ℕ) → Option MapLine
 region_line mode (b ∷ s ∷ c ∷ []) =
@@ -73,6 +78,7 @@ shape (k ∷ ts) =
     else if bytes_eq k (codes "cache") then cache_line ts
     else if bytes_eq k (codes "task") then task_line ts
     else if bytes_eq k (codes "after") then after_line ts
+    else if bytes_eq k (codes "join") then join_line ts
     else if bytes_eq k (codes "read") then region_line Read ts
     else if bytes_eq k (codes "write") then region_line Write ts
     else None

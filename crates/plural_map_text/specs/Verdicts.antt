@@ -19,17 +19,21 @@ IsInsideAt p (line.Memory words) = ⊤
 IsInsideAt p (line.Cache sets ways) = ⊤
 IsInsideAt p (line.Task name kind entry budget) = ⊤
 IsInsideAt p (line.After name when) = ⊤
+IsInsideAt p line.Join = ⊤
 
 -- What is known of a line that has no fault, after n lines that spell the parts: it has no text, and closes a section
 -- of two lines or more; or it has a shape, no kind of fault, and a region of it lies inside the memory.
-abbrev pub IsFine : List (List ℕ) → ℕ → Parts → List ℕ → Option MapLine → Type 0
-IsFine labels n p text None = (text ≡ []) × (2 ≤ n)
-IsFine labels n p text (Some s) = (Some s ≡ shape_of text) × HasNone (HasKind labels n p s) × IsInsideAt p s
+abbrev pub IsFine : (version : ℕ) → (labels names : List (List ℕ)) → ℕ → Parts → List ℕ → Option MapLine → Type 0
+IsFine version labels names n p text None = (text ≡ []) × (2 ≤ n)
+IsFine version labels names n p text (Some s) =
+    (Some s ≡ shape_of text) × HasNone (HasKind version labels names n p s) × IsInsideAt p s
 
 -- The fault of a line with a text, after n lines that spell the parts.
-abbrev pub IsShapeFault : List (List ℕ) → ℕ → Parts → List ℕ → MapKind → Type 0
-IsShapeFault labels n p text kind = IsLineFault rank kinds.Form (HasKind labels n p) (shape_of text) kind
+abbrev pub IsShapeFault : (version : ℕ) → (labels names : List (List ℕ)) → ℕ → Parts → List ℕ → MapKind → Type 0
+IsShapeFault version labels names n p text kind =
+    IsLineFault rank kinds.Form (HasKind version labels names n p) (shape_of text) kind
 
 -- The fault of a line after n lines that spell the parts. A line without text closes the section.
-abbrev pub IsFaultAt : List (List ℕ) → ℕ → Parts → List ℕ → MapKind → Type 0
-IsFaultAt labels n p text kind = IsClosedFault kinds.Form 2 n (IsShapeFault labels n p) text kind
+abbrev pub IsFaultAt : (version : ℕ) → (labels names : List (List ℕ)) → ℕ → Parts → List ℕ → MapKind → Type 0
+IsFaultAt version labels names n p text kind =
+    IsClosedFault kinds.Form 2 n (IsShapeFault version labels names n p) text kind

@@ -1,24 +1,24 @@
 //! The map so far, and whether a line fits after it.
-ghost use Rattle.std.specs.Prelude.{◌≡◌, ◌≤◌, length, map, sum, IfNone, OnOk, MatchOption, true, false, nat_le, ⊤, Some, option_map};
+ghost use Rattle.std.specs.Prelude.{◌≡◌, ◌≤◌, ◌<◌, length, map, sum, IfNone, OnOk, MatchOption, true, false, nat_le, ⊤, Some, option_map};
 ghost use Rattle.std.specs.Option.{option_map_or};
 ghost use Rattle.plural_regions.specs.Bounds.{AllInside, IsLeastOutside};
 ghost use Rattle.plural_map_text.specs.declared.fault.MapKind.{MapKind};
 ghost use Rattle.plural_base.specs.CacheShape.{is_set_count};
 ghost use Rattle.plural_map_text.specs.RegionOf.{region_of};
 ghost use Rattle.plural_map_text.specs.Parts.{quota_of, is_dup, with_line, with_read, tasks_of};
-ghost use Rattle.plural_map.specs.Lookup.{number_of, has_task};
-ghost use Rattle.plural_map.specs.Value.{with_dep, with_region};
-ghost use Rattle.plural_map_text.specs.Rules.{has, has_dep, names_current, current_has_dep, is_out_of_place, is_out_of_range, is_misnamed, is_too_many, IsOutsideAt, HasKind, rank, task_count, instance_count};
+ghost use Rattle.plural_map.specs.Value.{with_dep, with_region, with_some};
+ghost use Rattle.plural_map_text.specs.Rules.{most_words, most_stride, most_tasks, has_joined, has_dep, names_current, current_has_dep, nameable, are_region, is_out_of_place, is_out_of_range, is_misnamed, is_too_many, IsOutsideAt, HasKind, rank, task_count, instance_count};
 ghost use Rattle.plural_sections.specs.Numbers.{is_within};
 ghost use Rattle.plural_sections.specs.LineKinds.{IsVerdict};
 ghost use Rattle.plural_map_text.specs.Verdicts.{IsInsideAt};
 ghost use Rattle.plural_map_text.specs.Drafts.{draft_parts};
 
 use crate::fault::MapKind;
+use crate::index::Index;
 use crate::line::{MapLine, TaskKind};
 use arrayvec::ArrayVec;
 use plural_bytes::Name;
-use plural_map::{Dep, Task, TaskParts, has_task, number_of};
+use plural_map::{Dep, Task, TaskParts, has_task};
 use plural_regions::{Mode, Region};
 use plural_sections::is_within;
 use std::alloc::AllocFailed;
@@ -33,12 +33,6 @@ pub(crate) struct Draft {
     pub earlier: Vec<Task>,
     /// The task that `after`, `read` and `write` lines belong to.
     pub current: Option<Task>,
-}
-
-fn has(list: &[Name], name: &Name) -> bool
-    ensures { result ≡ has list.now name.now }
-{
-    list.iter().any(|x| x == name)
 }
 
 fn quota_sum(tasks: &[Task]) -> u64
@@ -69,22 +63,60 @@ fn is_set_count(sets: u64) -> bool
     matches!(sets, 1 | 2 | 4 | 8 | 16 | 32 | 64)
 }
 
-fn is_out_of_place(n: usize, draft: &Draft, line: &MapLine) -> bool
-    ensures { result ≡ is_out_of_place n (draft_parts draft.now) line.now }
+fn has_joined(draft: &Draft) -> bool
+    ensures { result ≡ has_joined (draft_parts draft.now) }
+{
+    match &draft.current {
+        None => true,
+        Some(task) => task.joins_some(),
+    }
+}
+
+fn is_out_of_place(version: u32, n: usize, draft: &Draft, line: &MapLine) -> bool
+    ensures { result ≡ is_out_of_place version n (draft_parts draft.now) line.now }
 {
     match line {
         MapLine::Memory { .. } => n != 0,
         MapLine::Cache { .. } => n != 1,
         MapLine::Task { .. } => n < 2,
         MapLine::After { .. } | MapLine::Region { .. } => n < 2 || draft.current.is_none(),
+        MapLine::Join => version != 2 || n < 2 || has_joined(draft),
     }
 }
 
-fn is_out_of_range(line: &MapLine) -> bool
-    ensures { result ≡ is_out_of_range line.now }
+fn most_words(version: u32) -> u32
+    ensures { result ≡ most_words version }
+{
+    if version == 2 { 1_048_576 } else { 65_536 }
+}
+
+fn most_stride(version: u32) -> u32
+    ensures { result ≡ most_stride version }
+{
+    if version == 2 { 1_048_575 } else { 65_535 }
+}
+
+fn most_tasks(version: u32) -> usize
+    ensures { result ≡ most_tasks version }
+{
+    if version == 2 { 256 } else { 64 }
+}
+
+fn is_region(version: u32, base: u64, stride: u64, count: u64) -> bool
+    ensures { result ≡ are_region version base stride count }
+{
+    is_within(0, most_stride(version), base)
+        && is_within(0, most_stride(version), stride)
+        && is_within(1, most_words(version), count)
+}
+
+fn is_out_of_range(version: u32, line: &MapLine) -> bool
+    ensures { result ≡ is_out_of_range version line.now }
 {
     match *line {
-        MapLine::Memory { words } => { !(is_within(8, 65_536, words) && words % 8 == 0) }
+        MapLine::Memory { words } => {
+            !(is_within(8, most_words(version), words) && words % 8 == 0)
+        }
         MapLine::Cache { sets, ways } => { !(is_set_count(sets) && is_within(1, 4, ways)) }
         MapLine::Task { kind, budget, .. } => {
             !(is_within(1, 16_384, quota_of(kind)) && is_within(1, 100_000_000, budget))
@@ -94,12 +126,8 @@ fn is_out_of_range(line: &MapLine) -> bool
             stride,
             count,
             ..
-        } => {
-            !(is_within(0, 65_535, base)
-                && is_within(0, 65_535, stride)
-                && is_within(1, 65_536, count))
-        }
-        MapLine::After { .. } => false,
+        } => !is_region(version, base, stride, count),
+        MapLine::After { .. } | MapLine::Join => false,
     }
 }
 
@@ -109,18 +137,36 @@ fn has_dep(task: &Task, number: usize) -> bool
     task.deps().iter().any(|d| d.task as usize == number)
 }
 
-fn is_misnamed(labels: &[Name], draft: &Draft, line: &MapLine) -> bool
-    ensures { result ≡ is_misnamed labels.now (draft_parts draft.now) line.now }
+fn nameable(version: u32, names: &Index<'_>, draft: &Draft) -> usize
+    ensures { result ≡ nameable version names.now (draft_parts draft.now) }
+{
+    if version == 2 {
+        names.len()
+    } else {
+        draft.earlier.len()
+    }
+}
+
+fn is_misnamed(
+    version: u32,
+    labels: &Index<'_>,
+    names: &Index<'_>,
+    draft: &Draft,
+    line: &MapLine,
+) -> bool
+    ensures { result ≡ is_misnamed version labels.now names.now (draft_parts draft.now) line.now }
 {
     match line {
         MapLine::Task { name, entry, .. } => {
-            has_task(&draft.earlier, name) || names_current(draft, name) || !has(labels, entry)
+            has_task(&draft.earlier, name) || names_current(draft, name) || !labels.has(entry)
         }
         MapLine::After { name, .. } => {
-            !has_task(&draft.earlier, name)
-                || current_has_dep(draft, number_of(&draft.earlier, name))
+            let place = names.place_of(name);
+            place >= nameable(version, names, draft) || current_has_dep(draft, place)
         }
-        MapLine::Memory { .. } | MapLine::Cache { .. } | MapLine::Region { .. } => false,
+        MapLine::Memory { .. } | MapLine::Cache { .. } | MapLine::Join | MapLine::Region { .. } => {
+            false
+        }
     }
 }
 
@@ -182,25 +228,26 @@ fn has_all_regions(draft: &Draft) -> bool
     }
 }
 
-fn is_too_many(draft: &Draft, line: &MapLine) -> bool
+fn is_too_many(version: u32, draft: &Draft, line: &MapLine) -> bool
     requires few { length draft.now.earlier.items ≤ 256 }
     requires quotas { instance_count (draft_parts draft.now) ≤ 65536 }
-    ensures { result ≡ is_too_many (draft_parts draft.now) line.now }
+    ensures { result ≡ is_too_many version (draft_parts draft.now) line.now }
 {
     match *line {
         MapLine::Task { kind, .. } => {
-            task_count(draft) >= 64 || quota_of(kind) > 65_536 - instance_count(draft)
+            task_count(draft) >= most_tasks(version)
+                || quota_of(kind) > 65_536 - instance_count(draft)
         }
         MapLine::After { .. } => has_all_deps(draft),
         MapLine::Region { .. } => has_all_regions(draft),
-        MapLine::Memory { .. } | MapLine::Cache { .. } => false,
+        MapLine::Memory { .. } | MapLine::Cache { .. } | MapLine::Join => false,
     }
 }
 
 fn region_of(mode: Mode, base: u64, stride: u64, count: u64) -> Region
-    requires base { is_within 0 65535 base ≡ true }
-    requires stride { is_within 0 65535 stride ≡ true }
-    requires count { is_within 1 65536 count ≡ true }
+    requires base { base ≤ 1048575 }
+    requires stride { stride ≤ 1048575 }
+    requires count { (1 ≤ count) × (count ≤ 1048576) }
     ensures { result ≡ region_of mode base stride count }
 {
     Region {
@@ -225,8 +272,8 @@ fn region_outside(draft: &Draft, region: &Region) -> Option<u32>
     }
 }
 
-fn first_outside(draft: &Draft, line: &MapLine) -> Option<u32>
-    requires { is_out_of_range line.now ≡ false }
+fn first_outside(version: u32, draft: &Draft, line: &MapLine) -> Option<u32>
+    requires { is_out_of_range version line.now ≡ false }
     ensures { MatchOption result
         (IsInsideAt (draft_parts draft.now) line.now)
         (λ k. IsOutsideAt (draft_parts draft.now) line.now k) }
@@ -246,25 +293,32 @@ fn first_outside(draft: &Draft, line: &MapLine) -> Option<u32>
 }
 
 /// The fault of a line of a shape, after `n` lines that spell the draft.
-pub(crate) fn verdict(labels: &[Name], n: usize, draft: &Draft, line: &MapLine) -> Option<MapKind>
+pub(crate) fn verdict(
+    version: u32,
+    labels: &Index<'_>,
+    names: &Index<'_>,
+    n: usize,
+    draft: &Draft,
+    line: &MapLine,
+) -> Option<MapKind>
     requires few { length draft.now.earlier.items ≤ 256 }
     requires quotas { instance_count (draft_parts draft.now) ≤ 65536 }
-    ensures verdict { IsVerdict rank (HasKind labels.now n (draft_parts draft.now) line.now) result }
+    ensures verdict { IsVerdict rank (HasKind version labels.now names.now n (draft_parts draft.now) line.now) result }
     ensures inside { IfNone result (IsInsideAt (draft_parts draft.now) line.now) }
 {
-    if is_out_of_place(n, draft, line) {
+    if is_out_of_place(version, n, draft, line) {
         return Some(MapKind::Form);
     }
-    if is_out_of_range(line) {
+    if is_out_of_range(version, line) {
         return Some(MapKind::Number);
     }
-    if is_misnamed(labels, draft, line) {
+    if is_misnamed(version, labels, names, draft, line) {
         return Some(MapKind::Name);
     }
-    if is_too_many(draft, line) {
+    if is_too_many(version, draft, line) {
         return Some(MapKind::Count);
     }
-    match first_outside(draft, line) {
+    match first_outside(version, draft, line) {
         Some(k) => Some(MapKind::Outside { k }),
         None => None,
     }
@@ -291,6 +345,16 @@ fn add_dep(draft: &mut Draft, dep: Dep)
     }
 }
 
+fn join_some(draft: &mut Draft)
+    ensures { draft_parts draft.new
+        ≡ record (draft_parts draft.old) { current = option_map with_some draft.old.current } }
+{
+    match &mut draft.current {
+        None => {}
+        Some(task) => task.join_some(),
+    }
+}
+
 fn add_region(draft: &mut Draft, region: Region)
     requires { option_map_or (λ t. nat_le 8 (length t.regions)) draft.old.current false ≡ false }
     ensures { draft_parts draft.new
@@ -302,11 +366,16 @@ fn add_region(draft: &mut Draft, region: Region)
     }
 }
 
-fn add_line(draft: &mut Draft, line: &MapLine) -> Result<(), AllocFailed<Task>>
-    requires range { is_out_of_range line.now ≡ false }
-    requires room { is_too_many (draft_parts draft.old) line.now ≡ false }
-    requires few { length draft.old.earlier.items ≤ 256 }
-    ensures { OnOk result (draft_parts draft.new ≡ with_line (draft_parts draft.old) line.now) }
+fn add_line(
+    version: u32,
+    names: &Index<'_>,
+    draft: &mut Draft,
+    line: &MapLine,
+) -> Result<(), AllocFailed<Task>>
+    requires range { is_out_of_range version line.now ≡ false }
+    requires room { is_too_many version (draft_parts draft.old) line.now ≡ false }
+    requires names { length names.now < 4294967296 }
+    ensures { OnOk result (draft_parts draft.new ≡ with_line names.now (draft_parts draft.old) line.now) }
 {
     match *line {
         MapLine::Memory { words } => {
@@ -337,8 +406,12 @@ fn add_line(draft: &mut Draft, line: &MapLine) -> Result<(), AllocFailed<Task>>
             open_task(draft, task)
         }
         MapLine::After { name, when } => {
-            let task = number_of(&draft.earlier, &name) as u32;
+            let task = names.place_of(&name) as u32;
             add_dep(draft, Dep { task, when });
+            Ok(())
+        }
+        MapLine::Join => {
+            join_some(draft);
             Ok(())
         }
         MapLine::Region {
@@ -354,14 +427,19 @@ fn add_line(draft: &mut Draft, line: &MapLine) -> Result<(), AllocFailed<Task>>
 }
 
 /// Adds what a line without a fault was read as; the line that closes the section adds nothing.
-pub(crate) fn add(draft: &mut Draft, read: &Option<MapLine>) -> Result<(), AllocFailed<Task>>
-    requires range { MatchOption read.now ⊤ (λ line. is_out_of_range line ≡ false) }
-    requires room { MatchOption read.now ⊤ (λ line. is_too_many (draft_parts draft.old) line ≡ false) }
-    requires few { length draft.old.earlier.items ≤ 256 }
-    ensures { OnOk result (draft_parts draft.new ≡ with_read (draft_parts draft.old) read.now) }
+pub(crate) fn add(
+    version: u32,
+    names: &Index<'_>,
+    draft: &mut Draft,
+    read: &Option<MapLine>,
+) -> Result<(), AllocFailed<Task>>
+    requires range { MatchOption read.now ⊤ (λ line. is_out_of_range version line ≡ false) }
+    requires room { MatchOption read.now ⊤ (λ line. is_too_many version (draft_parts draft.old) line ≡ false) }
+    requires names { length names.now < 4294967296 }
+    ensures { OnOk result (draft_parts draft.new ≡ with_read names.now (draft_parts draft.old) read.now) }
 {
     match read {
         None => Ok(()),
-        Some(line) => add_line(draft, line),
+        Some(line) => add_line(version, names, draft, line),
     }
 }

@@ -8,6 +8,7 @@
 
 mod draft;
 mod fault;
+mod index;
 mod line;
 mod printing;
 mod read;

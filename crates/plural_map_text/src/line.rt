@@ -35,6 +35,8 @@ pub enum MapLine {
         name: Name,
         when: When,
     },
+    /// `join some`
+    Join,
     /// `read BASE STRIDE COUNT` and `write BASE STRIDE COUNT`
     Region {
         mode: Mode,

@@ -1,7 +1,7 @@
 //! A map line by its tokens.
 ghost use Rattle.std.specs.Prelude.{◌≡◌};
 ghost use Rattle.plural_bytes.specs.Lines.{tokens};
-ghost use Rattle.plural_map_text.specs.Shape.{when_of, memory_line, cache_line, task_end, dup_task, task_line, after_line, region_line, shape_of};
+ghost use Rattle.plural_map_text.specs.Shape.{when_of, memory_line, cache_line, task_end, dup_task, task_line, after_line, join_line, region_line, shape_of};
 
 use crate::line::{MapLine, TaskKind};
 use plural_bytes::{Name, is_word, next_token};
@@ -58,6 +58,16 @@ fn after_line(text: &[u8]) -> Option<MapLine>
     let name = Name::of(name)?;
     let when = when_of(when)?;
     Some(MapLine::After { name, when })
+}
+
+fn join_line(text: &[u8]) -> Option<MapLine>
+    ensures { result ≡ join_line (tokens text.now) }
+{
+    let (word, rest) = next_token(text)?;
+    if next_token(rest).is_some() || !is_word(word, b"some") {
+        return None;
+    }
+    Some(MapLine::Join)
 }
 
 fn region_line(mode: Mode, text: &[u8]) -> Option<MapLine>
@@ -139,6 +149,8 @@ pub(crate) fn shape_of(text: &[u8]) -> Option<MapLine>
         task_line(rest)
     } else if is_word(word, b"after") {
         after_line(rest)
+    } else if is_word(word, b"join") {
+        join_line(rest)
     } else if is_word(word, b"read") {
         region_line(Mode::Read, rest)
     } else if is_word(word, b"write") {

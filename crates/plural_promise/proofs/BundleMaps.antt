@@ -1,8 +1,10 @@
 -- The map of a bundle without a fault.
-use Rattle.std.proofs.Common.{◌≡◌, ℕ, Bool, true, false, Option, Some, None, List, [], ◌∷◌, refl, sym, subst, ap, ◌∙◌, append-nil, if◌then◌else◌}
-use Rattle.std.specs.Prelude.{◌==◌, Ok, Err, codes, bytes_eq}
+use Rattle.std.proofs.Common.{◌≡◌, ℕ, ◌<◌, ◌≤◌, arith, inl, inr, ⊎_elim, Bool, true, false, Option, Some, None, List, [], ◌∷◌, refl, sym, subst, ap, ◌∙◌, append-nil, if◌then◌else◌}
+use Rattle.std.specs.Prelude.{◌⊎◌, Ok, Err, codes, bytes_eq}
 use Rattle.std.specs.List.{AllByRecursion}
-use Rattle.std.proofs.lemmas.Bool.{eqb-true}
+use Rattle.std.proofs.lemmas.Bool.{cases_lt}
+use Rattle.plural_sections.specs.Numbers.{is_within}
+use Rattle.plural_sections.proofs.Caps.{within_bounds}
 use Rattle.plural_bytes.specs.Lines.{TextLine, has_text, tokens}
 use Rattle.plural_bytes.specs.Numerals.{numeral}
 use Rattle.plural_sections.specs.declared.fault.Fault.TheVariants as fault
@@ -12,7 +14,7 @@ use Rattle.plural_map.proofs.Lookups.{AreNamed}
 use Rattle.plural_map_text.specs.Rules.{IsMapText}
 use Rattle.plural_map_text.specs.Parts.{map_of}
 use Rattle.plural_asm.specs.Labels.{names_of}
-use Rattle.plural_reread.proofs.FaultlessMaps.{map_fits}
+use Rattle.plural_reread.proofs.FaultlessMaps.{map_fits, map_fits_2}
 use Rattle.plural_bundle.specs.Answer.{IsBundle}
 use Rattle.plural_bundle.specs.FirstLine.{version_read, version_told}
 use Rattle.plural_bundle.specs.Value.{BundleValue, bundle_of}
@@ -21,23 +23,26 @@ use Rattle.plural_bundle.proofs.BundleParts.{parts_make_a_bundle, a_bundle_has_p
 
 -- ---- the version
 
-read_1 : (o : Option ℕ) (version : ℕ) → version_read o ≡ Ok version → version ≡ 1
-read_1 None version e = absurd cc
-read_1 (Some n) version e = by (n == 1) refl e
+read_known : (o : Option ℕ) (version : ℕ) → version_read o ≡ Ok version → (version ≡ 1) ⊎ (version ≡ 2)
+read_known None version e = absurd cc
+read_known (Some n) version e = by (is_within 1 2 n) refl e
   where
-    by : (b : Bool) → (n == 1) ≡ b → (if b then Ok n else Err fault.Number) ≡ Ok version → version ≡ 1
-    by true h e = let same : n ≡ version = cc in sym same ∙ eqb-true n 1 h
+    known : (1 ≤ n) × (n ≤ 2) → n ≡ version → (version ≡ 1) ⊎ (version ≡ 2)
+    known h same = ⊎_elim (λ l. inl (let low = h.0 in omega arith)) (λ m. inr (let high = h.1 in omega arith)) (cases_lt n 2)
+
+    by : (b : Bool) → is_within 1 2 n ≡ b → (if b then Ok n else Err fault.Number) ≡ Ok version → (version ≡ 1) ⊎ (version ≡ 2)
+    by true h e = let same : n ≡ version = cc in known (within_bounds 1 2 n h) same
     by false h e = absurd cc
 
-told_1 : (ts : List (List ℕ)) (version : ℕ) → version_told ts ≡ Ok version → version ≡ 1
-told_1 [] version e = absurd cc
-told_1 (w ∷ []) version e = absurd cc
-told_1 (w ∷ v ∷ []) version e = by (bytes_eq w (codes "plural")) e
+told_known : (ts : List (List ℕ)) (version : ℕ) → version_told ts ≡ Ok version → (version ≡ 1) ⊎ (version ≡ 2)
+told_known [] version e = absurd cc
+told_known (w ∷ []) version e = absurd cc
+told_known (w ∷ v ∷ []) version e = by (bytes_eq w (codes "plural")) e
   where
-    by : (b : Bool) → (if b then version_read (numeral v) else Err fault.Form) ≡ Ok version → version ≡ 1
-    by true e = read_1 (numeral v) version e
+    by : (b : Bool) → (if b then version_read (numeral v) else Err fault.Form) ≡ Ok version → (version ≡ 1) ⊎ (version ≡ 2)
+    by true e = read_known (numeral v) version e
     by false e = absurd cc
-told_1 (w ∷ v ∷ x ∷ ts) version e = absurd cc
+told_known (w ∷ v ∷ x ∷ ts) version e = absurd cc
 
 -- ---- the parts
 
@@ -54,12 +59,19 @@ in_parts lines end texts f =
     let h = a_bundle_has_parts lines [] end texts (subst (λ (x : List TextLine). IsBundle x lines end) (sym (append-nil lines)) f) in
     record { parts = h.0; whole = h.1; good = h.2; value = ap bundle_of h.1 ∙ (parts_make_a_bundle h.0 [] end h.2).1 }
 
--- The map that they spell is one within all limits, and the names of its tasks are names.
+-- A map that lines without a fault spell is one within all limits, and the names of its tasks are names.
+lines_fit : (version : ℕ) (labels : List (List ℕ)) (lines : List TextLine) (end : ℕ) → (version ≡ 1) ⊎ (version ≡ 2) → IsMapText version labels lines end → IsMap (map_of lines) × AreNamed (map_of lines).tasks
+lines_fit version labels lines end (inl one) text =
+    let fits = map_fits labels lines end (subst (λ v. IsMapText v labels lines end) one text) in
+    (fits.0, λ k d l. (fits.1.each k d l).name)
+lines_fit version labels lines end (inr two) text =
+    let fits = map_fits_2 labels lines end (subst (λ v. IsMapText v labels lines end) two text) in
+    (fits.0, λ k d l. (fits.1 k d l).name)
+
+-- So is that of a bundle.
 pub map_fits_parts : (lines : List TextLine) → InParts lines → IsMap (bundle_of lines).program.map × AreNamed (bundle_of lines).program.map.tasks
 map_fits_parts lines h =
     let p = h.parts in
-    let text : IsMapText 1 (names_of p.kernel_part) p.map_part p.at_kernels =
-    subst (λ v. IsMapText v (names_of p.kernel_part) p.map_part p.at_kernels) (told_1 (tokens p.first.1) p.version h.good.first) h.good.map_good in
-    let fits = map_fits (names_of p.kernel_part) p.map_part p.at_kernels text in
+    let fits = lines_fit p.version (names_of p.kernel_part) p.map_part p.at_kernels (told_known (tokens p.first.1) p.version h.good.first) h.good.map_good in
     let map_is : (bundle_of lines).program.map ≡ map_of p.map_part = ap (λ (b : BundleValue). b.program.map) h.value in
-    subst (λ (m : MapValue). IsMap m × AreNamed m.tasks) (sym map_is) (fits.0, λ k d l. (fits.1.each k d l).name)
+    subst (λ (m : MapValue). IsMap m × AreNamed m.tasks) (sym map_is) fits

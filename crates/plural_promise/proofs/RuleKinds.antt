@@ -12,9 +12,10 @@ use Rattle.plural_regions.specs.declared.region.Region.{Region}
 use Rattle.plural_regions.specs.Bounds.{IsLeastOutside}
 use Rattle.plural_map_text.specs.Rules as map
 use Rattle.plural_map_text.specs.Shape as map_shape
-use Rattle.plural_map_text.specs.Parts.{Parts, parts_of, map_of}
+use Rattle.plural_map_text.specs.Parts.{Parts, tasks_of, task_names, parts_of, map_of}
 use Rattle.plural_map_text.specs.RegionOf.{region_of}
 use Rattle.plural_map.specs.Value.{TaskValue}
+use Rattle.plural_map.proofs.CycleLaws.{one_cycle}
 use Rattle.plural_map_text.specs.Kinds.{map_fault}
 use Rattle.plural_map_text.specs.declared.line.MapLine.{MapLine}
 use Rattle.plural_map_text.specs.declared.line.MapLine.TheVariants as map_line
@@ -85,7 +86,7 @@ image_kind_back image_kind.Address = refl
 image_kinds : (Breaks : LineRule ImageKind) → Differ image.rank Breaks
 image_kinds Breaks before text k l a b e = sym (image_kind_back k) ∙ ap image_kind_of e ∙ image_kind_back l
 
--- ---- map lines, of which one kind tells an instance
+-- ---- map lines, of which one kind tells an instance, and one a cycle
 
 -- The instance that a kind tells, 0 if it tells none.
 told : MapKind → ℕ
@@ -94,21 +95,24 @@ told map_kind.Number = 0
 told map_kind.Name = 0
 told map_kind.Count = 0
 told (map_kind.Outside k) = k
+told (map_kind.Cycle names) = 0
 
 map_kind_of : ℕ → (k : ℕ) → MapKind
 map_kind_of n k = if n == 1 then map_kind.Form else if n == 2 then map_kind.Number else if n == 3 then map_kind.Name else if n == 4 then map_kind.Count else map_kind.Outside k
 
-map_kind_back : (k : MapKind) → map_kind_of (map.rank k) (told k) ≡ k
+-- Its number and the instance give a kind that tells no cycle.
+map_kind_back : (k : MapKind) → (map.rank k ≡ 7 → ⊥) → map_kind_of (map.rank k) (told k) ≡ k
 unfolding told map_kind_of
-map_kind_back map_kind.Form = refl
-map_kind_back map_kind.Number = refl
-map_kind_back map_kind.Name = refl
-map_kind_back map_kind.Count = refl
-map_kind_back (map_kind.Outside k) = refl
+map_kind_back map_kind.Form h = refl
+map_kind_back map_kind.Number h = refl
+map_kind_back map_kind.Name h = refl
+map_kind_back map_kind.Count h = refl
+map_kind_back (map_kind.Outside k) h = refl
+map_kind_back (map_kind.Cycle names) h = absurd (h refl)
 
 -- Kinds of one number that tell one instance are the same.
-map_kind_is : (k l : MapKind) → map.rank k ≡ map.rank l → told k ≡ told l → k ≡ l
-map_kind_is k l e f = sym (map_kind_back k) ∙ (λ i. map_kind_of (e i) (f i)) ∙ map_kind_back l
+map_kind_is : (k l : MapKind) → (map.rank k ≡ 7 → ⊥) → (map.rank l ≡ 7 → ⊥) → map.rank k ≡ map.rank l → told k ≡ told l → k ≡ l
+map_kind_is k l h g e f = sym (map_kind_back k h) ∙ (λ i. map_kind_of (e i) (f i)) ∙ map_kind_back l g
 
 -- The least instance outside a memory is one.
 one_outside : (r : Region) (q w k l : ℕ) → IsLeastOutside r q w k → IsLeastOutside r q w l → k ≡ l
@@ -127,27 +131,73 @@ outside_at p (map_line.Memory words) k l f g = absurd f
 outside_at p (map_line.Cache sets ways) k l f g = absurd f
 outside_at p (map_line.Task name kind entry budget) k l f g = absurd f
 outside_at p (map_line.After name when) k l f g = absurd f
+outside_at p map_line.Join k l f g = absurd f
 
-one_told : (labels : List (List ℕ)) (n : ℕ) (p : Parts) (s : MapLine) (k l : MapKind) → map.HasKind labels n p s k → map.HasKind labels n p s l → map.rank k ≡ map.rank l → told k ≡ told l
+-- A line with a shape has no cycle.
+in_table : (version : ℕ) (labels names : List (List ℕ)) (n : ℕ) (p : Parts) (s : MapLine) (k : MapKind) → map.HasKind version labels names n p s k → map.rank k ≡ 7 → ⊥
+in_table version labels names n p s map_kind.Form f e = omega (arith, e)
+in_table version labels names n p s map_kind.Number f e = omega (arith, e)
+in_table version labels names n p s map_kind.Name f e = omega (arith, e)
+in_table version labels names n p s map_kind.Count f e = omega (arith, e)
+in_table version labels names n p s (map_kind.Outside k) f e = omega (arith, e)
+in_table version labels names n p s (map_kind.Cycle cycle) f e = f
+
+one_told : (version : ℕ) (labels names : List (List ℕ)) (n : ℕ) (p : Parts) (s : MapLine) (k l : MapKind) → map.HasKind version labels names n p s k → map.HasKind version labels names n p s l → map.rank k ≡ map.rank l → told k ≡ told l
 unfolding told
-one_told labels n p s (map_kind.Outside k) (map_kind.Outside l) f g e = outside_at p s k l f g
-one_told labels n p s (map_kind.Outside k) map_kind.Form f g e = absurd (omega (arith, e))
-one_told labels n p s (map_kind.Outside k) map_kind.Number f g e = absurd (omega (arith, e))
-one_told labels n p s (map_kind.Outside k) map_kind.Name f g e = absurd (omega (arith, e))
-one_told labels n p s (map_kind.Outside k) map_kind.Count f g e = absurd (omega (arith, e))
-one_told labels n p s map_kind.Form (map_kind.Outside l) f g e = absurd (omega (arith, e))
-one_told labels n p s map_kind.Number (map_kind.Outside l) f g e = absurd (omega (arith, e))
-one_told labels n p s map_kind.Name (map_kind.Outside l) f g e = absurd (omega (arith, e))
-one_told labels n p s map_kind.Count (map_kind.Outside l) f g e = absurd (omega (arith, e))
-one_told labels n p s k l f g e = refl
+one_told version labels names n p s (map_kind.Outside k) (map_kind.Outside l) f g e = outside_at p s k l f g
+one_told version labels names n p s (map_kind.Outside k) map_kind.Form f g e = absurd (omega (arith, e))
+one_told version labels names n p s (map_kind.Outside k) map_kind.Number f g e = absurd (omega (arith, e))
+one_told version labels names n p s (map_kind.Outside k) map_kind.Name f g e = absurd (omega (arith, e))
+one_told version labels names n p s (map_kind.Outside k) map_kind.Count f g e = absurd (omega (arith, e))
+one_told version labels names n p s (map_kind.Outside k) (map_kind.Cycle cycle) f g e = absurd g
+one_told version labels names n p s map_kind.Form (map_kind.Outside l) f g e = absurd (omega (arith, e))
+one_told version labels names n p s map_kind.Number (map_kind.Outside l) f g e = absurd (omega (arith, e))
+one_told version labels names n p s map_kind.Name (map_kind.Outside l) f g e = absurd (omega (arith, e))
+one_told version labels names n p s map_kind.Count (map_kind.Outside l) f g e = absurd (omega (arith, e))
+one_told version labels names n p s (map_kind.Cycle cycle) (map_kind.Outside l) f g e = absurd f
+one_told version labels names n p s k l f g e = refl
+
+-- The line that closes a section has one kind of each number: a cycle is one.
+end_kinds : (version total n : ℕ) (p : Parts) (k l : MapKind) → map.EndKind version total n p k → map.EndKind version total n p l → map.rank k ≡ map.rank l → k ≡ l
+end_kinds version total n p map_kind.Number l f g e = absurd f
+end_kinds version total n p map_kind.Name l f g e = absurd f
+end_kinds version total n p map_kind.Count l f g e = absurd f
+end_kinds version total n p (map_kind.Outside i) l f g e = absurd f
+end_kinds version total n p map_kind.Form map_kind.Form f g e = refl
+end_kinds version total n p map_kind.Form map_kind.Number f g e = absurd g
+end_kinds version total n p map_kind.Form map_kind.Name f g e = absurd g
+end_kinds version total n p map_kind.Form map_kind.Count f g e = absurd g
+end_kinds version total n p map_kind.Form (map_kind.Outside i) f g e = absurd g
+end_kinds version total n p map_kind.Form (map_kind.Cycle b) f g e = absurd (omega (arith, e))
+end_kinds version total n p (map_kind.Cycle a) map_kind.Form f g e = absurd (omega (arith, e))
+end_kinds version total n p (map_kind.Cycle a) map_kind.Number f g e = absurd g
+end_kinds version total n p (map_kind.Cycle a) map_kind.Name f g e = absurd g
+end_kinds version total n p (map_kind.Cycle a) map_kind.Count f g e = absurd g
+end_kinds version total n p (map_kind.Cycle a) (map_kind.Outside i) f g e = absurd g
+end_kinds version total n p (map_kind.Cycle a) (map_kind.Cycle b) f g e = ap (λ (names : List (List ℕ)). map_kind.Cycle names) ((one_cycle (tasks_of p)).one a b f.2 g.2)
 
 map_kinds : (version : ℕ) (labels : List (List ℕ)) (all : List TextLine) → Differ map.rank (map.Breaks version labels all)
-map_kinds version labels all before [] k l a b e = a.0 ∙ sym b.0
+map_kinds version labels all before [] k l a b e = end_kinds version (length all) (length before) (parts_of (task_names all) before) k l a b e
 map_kinds version labels all before (c ∷ cs) k l a b e = by (map_shape.shape_of (c ∷ cs)) a b
   where
-    by : (o : Option MapLine) → MatchOption o (k ≡ map_kind.Form) (λ s. map.HasKind labels (length before) (parts_of before) s k) → MatchOption o (l ≡ map_kind.Form) (λ s. map.HasKind labels (length before) (parts_of before) s l) → k ≡ l
+    names : List (List ℕ)
+    names = task_names all
+
+    by : (o : Option MapLine) → MatchOption o (k ≡ map_kind.Form) (λ s. map.HasKind version labels names (length before) (parts_of names before) s k) → MatchOption o (l ≡ map_kind.Form) (λ s. map.HasKind version labels names (length before) (parts_of names before) s l) → k ≡ l
     by None a b = a ∙ sym b
-    by (Some s) a b = map_kind_is k l e (one_told labels (length before) (parts_of before) s k l a b e)
+    by (Some s) a b =
+        let n = length before in
+        let p = parts_of names before in
+        map_kind_is k l (in_table version labels names n p s k a) (in_table version labels names n p s l b) e (one_told version labels names n p s k l a b e)
+
+-- The one of form is a fault of form.
+end_form : (version : ℕ) (labels : List (List ℕ)) (all before : List TextLine) (k : MapKind) → map.Breaks version labels all before [] k → map.rank k ≡ 1 → map_fault k ≡ fault.Form
+end_form version labels all before map_kind.Form b e = refl
+end_form version labels all before map_kind.Number b e = absurd b
+end_form version labels all before map_kind.Name b e = absurd b
+end_form version labels all before map_kind.Count b e = absurd b
+end_form version labels all before (map_kind.Outside k) b e = absurd b
+end_form version labels all before (map_kind.Cycle names) b e = absurd (omega (arith, e))
 
 -- ---- texts of sections
 
@@ -164,17 +214,22 @@ module _ {K : Type 0} (of : K → Fault) (rank_of : K → ℕ) (due : List ℕ) 
       by true a b = a.0 ∙ sym b.0
       by false a b = renamed_one before text f g a b e
 
-  module _ (only_form : (before : List TextLine) (k : K) → Part before [] k → of k ≡ fault.Form) where
-    form : (before : List TextLine) (text : List ℕ) (f : Fault) → IsNot due text f ⊎ Renamed of (λ k. Part before [] k) f → f ≡ fault.Form
-    form before text f (inl a) = a.0
-    form before text f (inr a) = a.1 ∙ only_form before a.0 a.2
+  module _ (end_form : (before : List TextLine) (k : K) → Part before [] k → rank_of k ≡ 1 → of k ≡ fault.Form) where
+    form : (before : List TextLine) (g : Fault) → Renamed of (λ k. Part before [] k) g → rank g ≡ 1 → g ≡ fault.Form
+    form before g a e = a.1 ∙ end_form before a.0 a.2 (sym (same a.0) ∙ sym (ap rank a.1) ∙ e)
+
+    closing : (due text : List ℕ) (before : List TextLine) (f g : Fault) → IsNot due text f ⊎ Renamed of (λ k. Part before [] k) f → IsNot due text g ⊎ Renamed of (λ k. Part before [] k) g → rank f ≡ rank g → f ≡ g
+    closing due text before f g (inl a) (inl b) e = a.0 ∙ sym b.0
+    closing due text before f g (inl a) (inr b) e = a.0 ∙ sym (form before g b (sym e ∙ ap rank a.0))
+    closing due text before f g (inr a) (inl b) e = form before f a (e ∙ ap rank b.0) ∙ sym b.0
+    closing due text before f g (inr a) (inr b) e = renamed_one before [] f g a b e
 
     whole_part_kinds : Differ rank (WholePartBreaks of due Part)
     whole_part_kinds before text f g a b e = by (closes text) a b
       where
         by : (c : Bool) → InSection c (IsNot due text f ⊎ Renamed of (λ k. Part before [] k) f) (Renamed of (λ k. Part before text k) f)
             → InSection c (IsNot due text g ⊎ Renamed of (λ k. Part before [] k) g) (Renamed of (λ k. Part before text k) g) → f ≡ g
-        by true a b = form before text f a ∙ sym (form before text g b)
+        by true a b = closing due text before f g a b e
         by false a b = renamed_one before text f g a b e
 
 past_kinds : (before : List TextLine) (text : List ℕ) (f g : Fault) → PastBreaks text f → PastBreaks text g → f ≡ g
@@ -184,7 +239,7 @@ bundle_sections : (input all : List TextLine) (version n : ℕ) → Differ rank 
 bundle_sections input all version zero =
     let labels = names_of (kernel_lines input) in
     let lines = map_lines all in
-    whole_part_kinds map_fault map.rank (codes "[kernels]") (map.Breaks version labels lines) bundle_rule.map_rank (map_kinds version labels lines) (bundle_rule.only_form version labels lines)
+    whole_part_kinds map_fault map.rank (codes "[kernels]") (map.Breaks version labels lines) bundle_rule.map_rank (map_kinds version labels lines) (end_form version labels lines)
 bundle_sections input all version (suc zero) =
     part_kinds kernel_fault kernels.rank (codes "[image]") (kernels.Breaks (kernel_lines all)) bundle_rule.kernel_rank (kernel_kinds (kernels.Breaks (kernel_lines all)))
 bundle_sections input all version (suc (suc zero)) =
@@ -200,7 +255,7 @@ bundle_kinds input all (first ∷ second ∷ before) text f g a b e = bundle_sec
 
 output_sections : (tasks : List TaskValue) (words n : ℕ) → Differ rank (output.SectionBreaks tasks words n)
 output_sections tasks words zero =
-    whole_part_kinds log_fault log.rank (codes "[image]") (log.Breaks tasks) output_rule.log_rank (log_kinds (log.Breaks tasks)) (output_rule.only_form tasks)
+    whole_part_kinds log_fault log.rank (codes "[image]") (log.Breaks tasks) output_rule.log_rank (log_kinds (log.Breaks tasks)) (λ before k b e. output_rule.only_form tasks before k b)
 output_sections tasks words (suc zero) =
     part_kinds image_fault image.rank (codes "[end]") (image.Breaks words) output_rule.image_rank (image_kinds (image.Breaks words))
 output_sections tasks words (suc (suc n)) = λ before text f g a b e. past_kinds before text f g a b

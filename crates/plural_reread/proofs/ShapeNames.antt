@@ -10,7 +10,7 @@ use Rattle.plural_map_text.specs.declared.line.MapLine.TheVariants as line
 use Rattle.plural_map_text.specs.declared.line.TaskKind.{TaskKind}
 use Rattle.plural_map_text.specs.declared.line.TaskKind.TheVariants as kind
 use Rattle.plural_sections.specs.Numbers.{capped_numeral}
-use Rattle.plural_map_text.specs.Shape.{when_of, memory_line, cache_line, task_end, dup_task, task_line, after_line, region_line, shape, shape_of}
+use Rattle.plural_map_text.specs.Shape.{when_of, memory_line, cache_line, task_end, dup_task, task_line, after_line, join_line, region_line, shape, shape_of}
 
 -- The task's name and its entry are names.
 abbrev pub HasNames : MapLine → Type 0
@@ -18,6 +18,7 @@ HasNames (line.Memory words) = ⊤
 HasNames (line.Cache sets ways) = ⊤
 HasNames (line.Task name kind entry budget) = (is_name name ≡ true) × (is_name entry ≡ true)
 HasNames (line.After name when) = ⊤
+HasNames line.Join = ⊤
 HasNames (line.Region mode base stride count) = ⊤
 
 -- They are, if there is a line.
@@ -83,6 +84,11 @@ after_named (n ∷ []) = tt
 after_named (n ∷ w ∷ []) = chained (λ name. option_map (λ when. line.After name when) (when_of w)) (name_of n) (λ name. mapped (λ when. line.After name when) (when_of w) (λ when. tt))
 after_named (n ∷ w ∷ x ∷ ts) = tt
 
+join_named : (ts : List (List ℕ)) → Holds (join_line ts)
+join_named [] = tt
+join_named (w ∷ []) = either (bytes_eq w (codes "some")) (Some line.Join) None tt tt
+join_named (w ∷ x ∷ ts) = tt
+
 region_named : (mode : Mode) (ts : List (List ℕ)) → Holds (region_line mode ts)
 region_named mode [] = tt
 region_named mode (b ∷ []) = tt
@@ -99,7 +105,8 @@ shape_named (k ∷ ts) =
     (either (bytes_eq k (codes "cache")) (cache_line ts) _ (cache_named ts)
     (either (bytes_eq k (codes "task")) (task_line ts) _ (task_named ts)
     (either (bytes_eq k (codes "after")) (after_line ts) _ (after_named ts)
-    (either (bytes_eq k (codes "read")) (region_line Read ts) _ (region_named Read ts) (either (bytes_eq k (codes "write")) (region_line Write ts) None (region_named Write ts) tt)))))
+    (either (bytes_eq k (codes "join")) (join_line ts) _ (join_named ts)
+    (either (bytes_eq k (codes "read")) (region_line Read ts) _ (region_named Read ts) (either (bytes_eq k (codes "write")) (region_line Write ts) None (region_named Write ts) tt))))))
 
 -- The names of a line's shape are names.
 pub line_named : (text : List ℕ) (s : MapLine) → shape_of text ≡ Some s → HasNames s

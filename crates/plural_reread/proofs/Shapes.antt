@@ -126,6 +126,16 @@ after_all name w h = all_tokens (codes "after" ∷ name ∷ when_text w ∷ []) 
 pub after_shape : (name : List ℕ) (w : When) → is_name name ≡ true → shape (codes "after" ∷ name ∷ when_text w ∷ []) ≡ Some (line.After name w)
 after_shape name w h = rw (name_back name h, when_back w) refl
 
+-- ---- `join some`
+
+-- Its tokens are tokens.
+pub join_all : list_all is_token (codes "join" ∷ codes "some" ∷ []) ≡ true
+join_all = refl
+
+-- They spell it.
+pub join_shape : shape (codes "join" ∷ codes "some" ∷ []) ≡ Some line.Join
+join_shape = refl
+
 -- ---- regions
 
 mode_token : (x : Mode) → is_token (mode_text x) ≡ true

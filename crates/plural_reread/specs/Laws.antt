@@ -1,6 +1,6 @@
 -- Reading what was printed.
 use Rattle.std.specs.Prelude.{◌≡◌, ℕ, ◌<◌, ◌≤◌, false, List, length, slice_index_or, IsTrue}
-use Rattle.std.specs.List.{All}
+use Rattle.std.specs.List.{All, range_with_len}
 use Rattle.plural_bytes.specs.Lines.{TextLine, content_lines}
 use Rattle.plural_base.specs.Names.{is_name}
 use Rattle.plural_regions.specs.declared.region.Region.{Region}
@@ -34,6 +34,15 @@ pub record IsVersion1 (m : MapValue) : Type 0 where
   pub each : (number : ℕ) (d : TaskValue) → number < length m.tasks
       → IsSpelledTask number (slice_index_or m.tasks number d)
 
+-- A task that lines of version 2 may spell: its name and its entry are names.
+pub record IsNamedTask (t : TaskValue) : Type 0 where
+  pub name : IsTrue (is_name t.name)
+  pub entry : IsTrue (is_name t.entry)
+
+-- A map that version 2 of the format spells: any within all limits of a map, if the names of its tasks are names.
+abbrev pub IsVersion2 : MapValue → Type 0
+IsVersion2 m = All IsNamedTask m.tasks
+
 -- Each task's entry is one of these labels.
 abbrev pub AreLabelled : List (List ℕ) → List TaskValue → Type 0
 AreLabelled labels tasks = All (λ (t : TaskValue). IsTrue (has labels t.entry)) tasks
@@ -49,3 +58,18 @@ MapRoundTrip = (m : MapValue) (labels : List (List ℕ)) (end : ℕ) → IsMap m
 abbrev pub MapFits : Type 0
 MapFits = (labels : List (List ℕ)) (lines : List TextLine) (end : ℕ) → IsMapText 1 labels lines end
     → IsMap (map_of lines) × IsVersion1 (map_of lines) × AreLabelled labels (map_of lines).tasks
+
+-- The order of its tasks is that of their declaration.
+abbrev pub MapDeclared : Type 0
+MapDeclared = (labels : List (List ℕ)) (lines : List TextLine) (end : ℕ) → IsMapText 1 labels lines end
+    → (map_of lines).order ≡ range_with_len 0 (length (map_of lines).tasks)
+
+-- The same of a printed map of version 2.
+abbrev pub MapRoundTrip2 : Type 0
+MapRoundTrip2 = (m : MapValue) (labels : List (List ℕ)) (end : ℕ) → IsMap m → IsVersion2 m → AreLabelled labels m.tasks
+    → IsMapText 2 labels (content_lines (map_text m)) end × (map_of (content_lines (map_text m)) ≡ m)
+
+-- And of lines of version 2 without a fault.
+abbrev pub MapFits2 : Type 0
+MapFits2 = (labels : List (List ℕ)) (lines : List TextLine) (end : ℕ) → IsMapText 2 labels lines end
+    → IsMap (map_of lines) × IsVersion2 (map_of lines) × AreLabelled labels (map_of lines).tasks

@@ -67,6 +67,14 @@ last_first rank B lines last number k f = elim (split_last lines f.before last (
   | inr p ↦ inl (record { before = f.before; text = f.text; after = p.0; whole = p.1; earlier = f.earlier; breaks = f.breaks; least = f.least })
 ]
 
+-- If it is that of the last, that is the least kind there.
+pub last_least : {K : Type 0} (rank : K → ℕ) (B : List TextLine → List ℕ → K → Type 0) (lines : List TextLine) (last : TextLine) (number : ℕ) (k : K) → IsFirstFault rank B (lines ++ last ∷ []) number k
+    → IsFirstFault rank B lines number k ⊎ ((other : K) → B lines last.1 other → rank k ≤ rank other)
+last_least rank B lines last number k f = elim (split_last lines f.before last (number, f.text) f.after f.whole) [
+  | inl p ↦ inr (λ other b. f.least other (subst₂ (λ x t. B x t other) p.0 (ap (λ (l : TextLine). l.1) p.1) b))
+  | inr p ↦ inl (record { before = f.before; text = f.text; after = p.0; whole = p.1; earlier = f.earlier; breaks = f.breaks; least = f.least })
+]
+
 -- ---- the lines of the code
 
 -- How many lines stand before the i-th.

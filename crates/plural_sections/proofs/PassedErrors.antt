@@ -22,6 +22,11 @@ pub error_passed : {V K L : Type 0} (of : K → L) (r : Result V (LineError K)) 
 error_passed of (Ok v) error P Q R m h f = absurd h
 error_passed of (Err e) error P Q R m h f = subst R (sym (renamed_is of e error h)) (f e m)
 
+-- An error that was told for one of which the result tells.
+pub told_by : {V E F : Type 0} (r : Result V E) (error : F) (P : V → Type 0) (Q : E → Type 0) (T : E → F → Type 0) (R : F → Type 0) → MatchResult r P Q → IsErrAnd r (λ e. T e error) → ((e : E) → Q e → T e error → R error) → R error
+told_by (Ok v) error P Q T R m h f = absurd h
+told_by (Err e) error P Q T R m h f = f e m h
+
 -- An error that was answered is the one of which this holds.
 pub answered : {V E : Type 0} (r : Result V E) (P : V → Type 0) (Q : E → Type 0) (e : E) → IsErrAnd r (λ x. x ≡ e) → Q e → MatchResult r P Q
 answered (Ok v) P Q e h q = absurd h

@@ -1,6 +1,6 @@
 -- How far a text of sections was read without a fault, and what its next lines mean for the whole.
 use Rattle.std.proofs.Common.{◌≡◌, ℕ, ◌+◌, ◌<◌, Bool, true, false, List, [], ◌∷◌, ◌++◌, length, drop, refl, ap, sym, subst, ◌∙◌, append_assoc, append-nil, take-append-drop, inl, inr}
-use Rattle.std.specs.Prelude.{bytes_eq}
+use Rattle.std.specs.Prelude.{bytes_eq, ◌⊎◌}
 use Rattle.std.specs.List.{position_or_len}
 use Rattle.std.proofs.lemmas.Bool.{true≢false}
 use Rattle.std.proofs.lemmas.Slice.Eq.{bytes_eq-Decides}
@@ -15,12 +15,12 @@ use Rattle.plural_sections.specs.Kinds.{rank}
 use Rattle.plural_sections.specs.Errors.{Tells, renamed}
 use Rattle.plural_sections.specs.Sections.{closes, closings, since, up_to_header}
 use Rattle.plural_sections.specs.Borders.{head_of, IsClosed, IsHeaded, IsMissing, AllBlank, IsLeftOver}
-use Rattle.plural_sections.specs.Texts.{WholePartBreaks, PastBreaks}
-use Rattle.plural_sections.proofs.FirstFaults.{faultless_push, last_first}
+use Rattle.plural_sections.specs.Texts.{IsNot, Renamed, WholePartBreaks, PastBreaks}
+use Rattle.plural_sections.proofs.FirstFaults.{faultless_push, last_first, last_least}
 use Rattle.plural_sections.proofs.Delegation.{Delegates, faultless_section, first_in_section}
 use Rattle.plural_sections.proofs.Closings.{NoneCloses, Begins, begins_nothing, begins_next, closings_more}
 use Rattle.plural_sections.proofs.Cuts.{empty_apart, rest_closed}
-use Rattle.plural_sections.proofs.TextRules.{TextRule, SectionRule, rank_low, in_closing}
+use Rattle.plural_sections.proofs.TextRules.{TextRule, SectionRule, rank_low, in_closing, no_header}
 
 -- ---- the end of the lines
 
@@ -156,6 +156,50 @@ module _ {K : Type 0} {t : TextRule} {all rest : List TextLine} {n : ℕ} (s : S
         begins = begins_next s.body lines n line s.begins h c.due_closes;
       }
 
+  -- The first fault of a section that has to be whole, with the line that closes it, is that of the text, if this kind is
+  -- form there for that line.
+  pub whole_section_form : ((before : List TextLine) (text : List ℕ) (f : Fault) → t.Sections n before text f ≡ WholePartBreaks c.of c.due c.Part before text f)
+      → (lines back : List TextLine) (end number : ℕ) → NoneCloses lines → rest ≡ lines ++ back → IsClosed back → number ≡ (head_of back end).0
+      → (line : ℕ) (kind : K) → (c.Part lines [] kind → c.of kind ≡ Form) → IsFirstFault c.part_rank c.Part (closed lines number) line kind → IsFirstFault rank t.Breaks (closed all end) line (c.of kind)
+  whole_section_form same lines back end number h w shut at line kind only f = elim (last_first c.part_rank c.Part lines (number, []) line kind f) [
+    | inl first ↦ section_first lines back end line kind h w first
+    | inr last ↦
+        let form : c.of kind ≡ Form = only last.2 in
+        let here : t.Sections n lines (head_of back end).1 Form =
+        subst (λ X. X) (sym (same lines (head_of back end).1 Form ∙ in_closing (closes (head_of back end).1) _ _ (head_closes back end shut))) (inr (kind, sym form, last.2)) in
+        let first : IsFirstFault rank t.Breaks (closed all end) (head_of back end).0 Form = closing_first lines back end h w last.0 here in
+        subst (λ x. IsFirstFault rank t.Breaks (closed all end) x (c.of kind)) (sym (last.1 ∙ at))
+        (subst (IsFirstFault rank t.Breaks (closed all end) (head_of back end).0) (sym form) first)
+  ]
+
+  -- It is, too, if the header that is due closes the section.
+  pub whole_section_due : ((before : List TextLine) (text : List ℕ) (f : Fault) → t.Sections n before text f ≡ WholePartBreaks c.of c.due c.Part before text f)
+      → bytes_eq c.due c.due ≡ true → (lines back more : List TextLine) (end number : ℕ) → NoneCloses lines → rest ≡ lines ++ back → IsHeaded c.due back more → number ≡ (head_of back end).0
+      → (line : ℕ) (kind : K) → IsFirstFault c.part_rank c.Part (closed lines number) line kind → IsFirstFault rank t.Breaks (closed all end) line (c.of kind)
+  whole_section_due same own lines back more end number h w b at line kind f = elim (last_least c.part_rank c.Part lines (number, []) line kind f) [
+    | inl first ↦ section_first lines back end line kind h w first
+    | inr least ↦ elim (last_first c.part_rank c.Part lines (number, []) line kind f) [
+      | inl first ↦ section_first lines back end line kind h w first
+      | inr last ↦
+          let due_is : (head_of back end).1 ≡ c.due = ap (λ (ls : List TextLine). (head_of ls end).1) b.whole in
+          let rule : (g : Fault) → t.Breaks (front s ++ lines) c.due g ≡ (IsNot c.due c.due g ⊎ Renamed c.of (λ k. c.Part lines [] k) g) =
+          λ g. rule_at s lines h c.due g ∙ same lines c.due g ∙ in_closing (closes c.due) _ _ c.due_closes in
+          let first : IsFirstFault rank t.Breaks (closed all end) (head_of back end).0 (c.of kind) = record {
+            before = front s ++ lines;
+            text = c.due;
+            after = tail_of back end;
+            whole = section_closed lines back end w ∙ sym (append_assoc (front s) lines (closed back end)) ∙ ap (λ x. (front s ++ lines) ++ x) (head_tail back end) ∙ ap (λ (x : List ℕ). (front s ++ lines) ++ ((head_of back end).0, x) ∷ tail_of back end) due_is;
+            earlier = section_faultless lines h last.0;
+            breaks = subst (λ X. X) (sym (rule (c.of kind))) (inr (kind, refl, last.2));
+            least = λ other o. elim (subst (λ X. X) (rule other) o) [
+              | inl x ↦ absurd (no_header c.due other own x)
+              | inr x ↦ rw (x.1, c.ranks kind, c.ranks x.0) (least x.0 x.2)
+            ];
+          } in
+          subst (λ x. IsFirstFault rank t.Breaks (closed all end) x (c.of kind)) (sym (last.1 ∙ at)) first
+    ]
+  ]
+
   -- What an error says of a section that has to be whole, with the line that closes it, it says of the text; that line's
   -- only fault as a line of the section is of form.
   pub whole_section_tells : ((before : List TextLine) (text : List ℕ) (f : Fault) → t.Sections n before text f ≡ WholePartBreaks c.of c.due c.Part before text f)
@@ -163,16 +207,7 @@ module _ {K : Type 0} {t : TextRule} {all rest : List TextLine} {n : ℕ} (s : S
       → (lines back : List TextLine) (end number : ℕ) → NoneCloses lines → rest ≡ lines ++ back → IsClosed back → number ≡ (head_of back end).0
       → (e : LineError K) → Tells c.part_rank c.Part (closed lines number) e → Tells rank t.Breaks (closed all end) (renamed c.of e)
   whole_section_tells same only lines back end number h w shut at Memory f = tt
-  whole_section_tells same only lines back end number h w shut at (At line kind) f = elim (last_first c.part_rank c.Part lines (number, []) line kind f) [
-    | inl first ↦ section_first lines back end line kind h w first
-    | inr last ↦
-        let form : c.of kind ≡ Form = only lines kind last.2 in
-        let here : t.Sections n lines (head_of back end).1 Form =
-        subst (λ X. X) (sym (same lines (head_of back end).1 Form ∙ in_closing (closes (head_of back end).1) _ _ (head_closes back end shut))) (inr (kind, sym form, last.2)) in
-        let first : IsFirstFault rank t.Breaks (closed all end) (head_of back end).0 Form = closing_first lines back end h w last.0 here in
-        subst (λ x. IsFirstFault rank t.Breaks (closed all end) x (c.of kind)) (sym (last.1 ∙ at))
-        (subst (IsFirstFault rank t.Breaks (closed all end) (head_of back end).0) (sym form) first)
-  ]
+  whole_section_tells same only lines back end number h w shut at (At line kind) f = whole_section_form same lines back end number h w shut at line kind (only lines kind) f
 
 -- ---- after the last section
 

@@ -19,6 +19,7 @@ rank_low fault.Name = omega arith
 rank_low fault.Count = omega arith
 rank_low fault.Reach = omega arith
 rank_low (fault.Outside k) = omega arith
+rank_low (fault.Cycle names) = omega arith
 
 -- The rule of a text: that of its lines, the lines at its head, which have no fault, and the rules of the sections after
 -- them.

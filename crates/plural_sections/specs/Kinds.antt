@@ -12,3 +12,4 @@ rank fault.Name = 3
 rank fault.Count = 4
 rank fault.Reach = 5
 rank (fault.Outside k) = 5
+rank (fault.Cycle names) = 7

@@ -43,6 +43,12 @@ abbrev pub BreaksClosed : {K : Type 0} → (form : K) → (least : ℕ) → (Lin
 BreaksClosed form least Lines before [] kind = ClosesEarly form least (length before) kind
 BreaksClosed form least Lines before (c ∷ cs) kind = Lines before (c ∷ cs) kind
 
+-- The same rule with kinds of its own for the line that closes the section.
+abbrev pub BreaksEnded : {K : Type 0} → (Ends : List TextLine → K → Type 0)
+    → (Lines : List TextLine → List ℕ → K → Type 0) → List TextLine → List ℕ → K → Type 0
+BreaksEnded Ends Lines before [] kind = Ends before kind
+BreaksEnded Ends Lines before (c ∷ cs) kind = Lines before (c ∷ cs) kind
+
 -- The fault of a line of such a section after n lines.
 abbrev pub IsClosedFault : {K : Type 0} → (form : K) → (least n : ℕ) → (IsFault : List ℕ → K → Type 0) → List ℕ → K
     → Type 0

@@ -1,8 +1,10 @@
 //! What may be wrong with a line of a text of sections.
 
+use plural_map::Names;
+
 /// What is wrong with a line of a text of sections. Of several kinds on one line the first that its
 /// section lists is told.
-#[derive(Clone, Copy, Debug, PartialEq, Eq)]
+#[derive(Debug, PartialEq, Eq, Drop)]
 pub enum Fault {
     /// The line has no shape that may stand in its place.
     Form,
@@ -18,4 +20,7 @@ pub enum Fault {
     Address,
     /// Instance `k`, counted from 0, is the least that has a word of the region outside the memory.
     Outside { k: u32 },
+    /// The order of the tasks doesn't reach each: these are the names of a cycle of tasks, each of which depends on the
+    /// next, and the last on the first.
+    Cycle { names: Names },
 }

@@ -7,7 +7,7 @@
 //! `after_header` and `nothing_after` tell what has to stand between sections (`specs/Borders.antt`).
 //! `capped_numeral`, `next_numeral`, `is_within` and `word_of` read the numbers of a line (`specs/Numbers.antt`).
 //!
-//! Stands on `plural_bytes`. Every reader of lines stands on it.
+//! Stands on `plural_bytes`, and on `plural_map` for the names of a cycle. Every reader of lines stands on it.
 #![tactic(auto)]
 
 mod border;
