@@ -1,8 +1,8 @@
 """The commands: words of the command line and an input give a status and a text.
 
 The words come first, then the length of the input, its faults, the clash, and the run or the
-verdict.  A run on one core answers as the serial run does, after the checker, and one in a drawn
-order has one text.  A run of several cores on threads may come to any text that `cores` allows.
+verdict.  A run on one core and one in a drawn order have one text.  A run of several cores on
+threads may come to any text that `cores` allows.
 """
 
 import re
@@ -92,12 +92,10 @@ def run_answer(bundle, count, seed):
     """The answer of a run on so many cores: in the order of a seed, or on threads if it is None."""
     task_map = bundle.program.map
     run = machine.serial(bundle.program, bundle.image)
-    if seed is not None:
-        log = cores.drawn_log(bundle.program, run, count, seed)
+    if count == 1 or seed is not None:
+        log = cores.drawn_log(bundle.program, run, count, seed or 0)
         return Answer(status_of(run), logs.output_text(task_map, log, run.image))
     text = logs.output_text(task_map, logs.serial_log(run), run.image)
-    if count == 1:
-        return Answer(status_of(run), text)
     return Answer(status_of(run), text, lambda it: cores.departure(bundle, run, count, it))
 
 

@@ -1,9 +1,10 @@
 """Whole inputs: a bundle, and a bundle with the output of a run after it.
 
-A bundle has the line `plural 1`, and then map, kernel and image lines, each section after its
-header, and `[end]`.  A header is a line whose first token begins with `[`.  A line that stands
-where another is due is malformed, and if the text ends too early it's the line after the last
-one.  The fault of an input is its first faulty line with the least kind of that line.
+A bundle has the line `plural 1` or `plural 2`, which tells its version, and then map, kernel and
+image lines, each section after its header, and `[end]`.  A header is a line whose first token
+begins with `[`.  A line that stands where another is due is malformed, and if the text ends too
+early it's the line after the last one.  The fault of an input is its first faulty line with the
+least kind of that line.  A cycle of tasks is the last kind of the line that closes the map lines.
 """
 
 from typing import NamedTuple
@@ -59,8 +60,9 @@ def read_version(line):
     value = texts.numeral(parts[1]) if len(parts) == 2 and parts[0] == b"plural" else None
     if value is None or not texts.is_plain(line.text):
         raise Fault(line.number, "form")
-    if value != 1:
+    if value not in (1, 2):
         raise Fault(line.number, "number")
+    return value
 
 
 def label_names(lines):
@@ -78,11 +80,13 @@ def label_names(lines):
 
 def read_bundle(lines):
     """The bundle up to its `[end]`."""
-    read_version(lines.take())
+    version = read_version(lines.take())
     lines.header(b"[map]")
     section = lines.section()
-    task_map = maps.read_map(section, label_names(lines.lines), lines.next_number())
+    closing = lines.next_number()
+    task_map = maps.read_map(section, label_names(lines.lines), closing, version)
     lines.header(b"[kernels]")
+    maps.demand_order(task_map, closing)
     code, places = kernels.assemble(lines.section())
     lines.header(b"[image]")
     image = images.read_image(lines.section(), task_map.words)

@@ -9,6 +9,8 @@ It's sought in two ways: pair by pair in this order, which says the rule but is 
 word.  If the pairs are few both are taken, and they must agree.
 """
 
+import itertools
+
 from . import maps
 
 FEW_PAIRS = 20000
@@ -20,7 +22,7 @@ def may_clash(task_map):
     needs = maps.needs(task_map)
     count = len(task_map.tasks)
     return [(t, u) for t in range(count) for u in range(t, count)
-            if t == u or not (t in before[u] or maps.exclusive(needs, t, u))]
+            if t == u or not (t in before[u] or u in before[t] or maps.exclusive(needs, t, u))]
 
 
 def words_of(task, k, mode):
@@ -62,12 +64,10 @@ def least(instances):
 
 
 def word_by_word(task_map):
-    pairs = may_clash(task_map)
+    pairs = set(may_clash(task_map))
     clashes = []
     for word, who in by_word(task_map).items():
-        for t, u in pairs:
-            if t not in who or u not in who:
-                continue
+        for t, u in pairs & set(itertools.product(who, who)):
             (all_t, writers_t), (all_u, writers_u) = who[t], who[u]
             for k in least(all_t) + least(writers_t):
                 for l in least(all_u) + least(writers_u):

@@ -6,7 +6,7 @@ isn't counted.  Data is accessed by whole words; the words of an instance are th
 regions, and those of its write regions may be stored to.  An instance whose count reaches the
 budget without an end is exhausted.
 
-The serial run takes the tasks in their order and the instances of each by rising number, one
+The serial run takes the tasks in the order of the map and the instances of each by rising number, one
 after another over one memory.  A load access misses if its line isn't among the last `ways`
 different lines of its set; this is asked of the whole list of the instance's load accesses.
 """
@@ -252,12 +252,12 @@ class Serial(NamedTuple):
 
 def serial(program, image):
     memory = list(image)
-    outcomes = []
+    outcomes = [None] * len(program.map.tasks)
     records = []
-    for t, task in enumerate(program.map.tasks):
-        barred = maps.decide(task, outcomes)
-        if barred is not None:
-            outcomes.append(barred)
+    for t in program.map.order:
+        task = program.map.tasks[t]
+        outcomes[t] = maps.decide(task, outcomes)
+        if outcomes[t] is not None:
             continue
         ends = []
         for k in range(task.quota):
@@ -267,5 +267,5 @@ def serial(program, image):
             records.append(Record(t, k, instance.end, instance.count, len(instance.loads), missed,
                                   instance.stores))
             ends.append(instance.end)
-        outcomes.append(outcome_of(ends))
+        outcomes[t] = outcome_of(ends)
     return Serial(memory, outcomes, records)

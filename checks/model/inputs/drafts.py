@@ -1,18 +1,20 @@
 """Random bundles without fault: maps that are often accepted, kernels that fit them, images."""
 
+from .. import maps
 from . import kernel_lines, spelling
 
 
 class Draft:
-    """The lines of a bundle by section; regions by task are kept for the kernels."""
+    """The version of a bundle, and its lines by section."""
 
-    def __init__(self):
+    def __init__(self, version=1):
+        self.version = version
         self.map_lines = []
         self.kernel_lines = []
         self.image_lines = []
 
     def lines(self):
-        return (["plural 1", "[map]"] + self.map_lines + ["[kernels]"] + self.kernel_lines +
+        return ([f"plural {self.version}", "[map]"] + self.map_lines + ["[kernels]"] + self.kernel_lines +
                 ["[image]"] + self.image_lines + ["[end]"])
 
 
@@ -265,34 +267,36 @@ def at(rng, low, high):
     return rng.choice([low, low, high, high, max(0, low - 1), high + 1, low + 1, high - 1])
 
 
-def numbers_draft(rng):
+def numbers_draft(rng, version=1):
     """A map whose numbers stand at the ends of their ranges, most of them inside."""
-    made = Draft()
+    made = Draft(version)
+    most = maps.WORDS_LIMIT[version]
     faulty = rng.randrange(9)
 
     def number(place, low, high, inside):
         return spelling.numeral(rng, at(rng, low, high) if place == faulty else rng.choice(inside))
 
     made.map_lines = [
-        f"memory {number(0, 8, 65536, [8, 16, 65536])}",
+        f"memory {number(0, 8, most, [8, 16, most])}",
         f"cache {number(1, 1, 64, [1, 2, 4, 8, 16, 32, 64])} {number(2, 1, 4, [1, 2, 3, 4])}",
         f"task t dup {number(3, 1, 16384, [1, 2, 3])} entry e budget "
         f"{number(4, 1, 100000000, [1, 9, 100000000])}",
-        f"read {number(5, 0, 65535, [0, 1])} {number(6, 0, 65535, [0, 1])} "
-        f"{number(7, 1, 65536, [1, 2])}"]
+        f"read {number(5, 0, most - 1, [0, 1])} {number(6, 0, most - 1, [0, 1])} "
+        f"{number(7, 1, most, [1, 2])}"]
     if faulty == 8:
         made.map_lines[1] = f"cache {rng.choice([0, 3, 5, 6, 12, 24, 31, 33, 48, 63, 65, 128])} 1"
         made.map_lines[0] = f"memory {rng.choice([8, 16])}"
     if faulty == 0 and rng.random() < 0.5:
-        made.map_lines[0] = f"memory {rng.choice([0, 4, 12, 20, 65532, 65528, 65544, 2**32 + 8])}"
+        words = rng.choice([0, 4, 12, 20, most - 4, most - 8, most + 8, 65544, 2**32 + 8])
+        made.map_lines[0] = f"memory {words}"
     made.kernel_lines = ["e: ecall"]
     return made
 
 
-def images_draft(rng):
+def images_draft(rng, version=1):
     """A bundle whose image lines meet the end of the memory or one another."""
-    made = Draft()
-    words = rng.choice([8, 16, 24, 65536])
+    made = Draft(version)
+    words = rng.choice([8, 16, 24, maps.WORDS_LIMIT[version]])
     made.map_lines = [f"memory {words}", "cache 1 1", "task t regular entry e budget 9"]
     made.kernel_lines = ["e: li x10, 0", "ecall"]
     address = rng.choice([0, 1, 3, 7, 8, words - 8, words - 9, words - 2, words - 1])
@@ -306,15 +310,15 @@ def images_draft(rng):
     return made
 
 
-def limits_draft(rng):
+def limits_draft(rng, version=1):
     """A map at the limits of its counts, or one beyond."""
-    made = Draft()
+    made = Draft(version)
     words = rng.choice([8, 64, 65528, 65536])
     made.map_lines = [f"memory {words}", f"cache {rng.choice([1, 64])} {rng.choice([1, 4])}"]
     made.kernel_lines = ["e: ecall", "f: andi x10, x10, 1", "ecall"]
     way = rng.randrange(4)
     if way == 0:
-        for t in range(64 + rng.randrange(-1, 2)):
+        for t in range(maps.TASKS_LIMIT[version] + rng.randrange(-1, 2)):
             made.map_lines.append(f"task t{t} regular entry e budget 9")
             if rng.random() < 0.3 and t > 0:
                 made.map_lines.append(f"after t{rng.randrange(t)} any")
@@ -356,23 +360,24 @@ def limits_draft(rng):
     return made
 
 
-def regions_draft(rng):
+def regions_draft(rng, version=1):
     """Few tasks whose regions end near the end of the memory, inside or outside."""
-    made = Draft()
-    words = rng.choice([8, 16, 64, 4096, 65528, 65536])
+    made = Draft(version)
+    most = maps.WORDS_LIMIT[version]
+    words = rng.choice([8, 16, 64, 4096, most - 8, most])
     made.map_lines = [f"memory {words}", "cache 1 1"]
     made.kernel_lines = ["e: ecall"]
     for t in range(rng.choice([1, 1, 2, 3])):
         quota = rng.choice([1, 2, 3, 7, 100, 1000, 16384])
         made.map_lines.append(f"task t{t} dup {quota} entry e budget 1")
         for _ in range(rng.choice([1, 1, 2])):
-            stride = rng.choice([0, 1, 2, 3, 7, words // quota, words // quota + 1, 65535])
-            most = max(1, min(300000 // quota, words))
-            count = rng.choice([1, 1, 2, 3, most, max(1, words - stride * (quota - 1))])
-            if count * quota > 400000 or count > 65536:
+            stride = rng.choice([0, 1, 2, 3, 7, words // quota, words // quota + 1, most - 1])
+            many = max(1, min(300000 // quota, words))
+            count = rng.choice([1, 1, 2, 3, many, max(1, words - stride * (quota - 1))])
+            if count * quota > 400000 or count > most:
                 count = 1
             stop = rng.choice([0, 0, 0, 1, 1, -1, stride, rng.randrange(3 * stride + 2)])
-            base = max(0, min(65535, words - stride * (quota - 1) - count + stop))
+            base = max(0, min(most - 1, words - stride * (quota - 1) - count + stop))
             made.map_lines.append(f"{rng.choice(['read', 'write'])} {base} {stride} {count}")
         if t > 0 and rng.random() < 0.5:
             made.map_lines.append(f"after t{rng.randrange(t)} {rng.choice(['any', '0', '1'])}")

@@ -1,7 +1,8 @@
 """The kinds of random input, each with how often it's made and how it is made."""
 
 from .. import bundles, clashes, filter_bundle, machine, texts
-from . import command_lines, drafts, kernel_lines, mutations, outputs, sharing, spelling
+from . import (command_lines, drafts, kernel_lines, mutations, outputs, sharing, spelling,
+               version_2)
 
 READERS = [[b"serial"], [b"run", b"--cores", b"1"], [b"check"]]
 
@@ -57,10 +58,10 @@ def any_draft(rng):
 CORES = [b"1"] * 2 + [b"2"] * 6 + [b"3"] * 6 + [b"8"] * 4 + [b"64"]
 
 
-def run_words(rng):
-    """The words for a run on some cores, half of them in a drawn order."""
+def run_words(rng, drawn=0.5):
+    """The words for a run on some cores, as often in a drawn order as told."""
     words = [b"run", b"--cores", rng.choice(CORES)]
-    if rng.random() < 0.5:
+    if rng.random() < drawn:
         seed = rng.choice([0, 1, 2**64 - 1, rng.randrange(100), rng.randrange(2**64)])
         words += [b"--order", str(seed).encode()]
     return words
@@ -70,7 +71,10 @@ def plain_text(draft):
     return "".join(line + "\n" for line in draft.lines()).encode()
 
 
-def accepted_draft(rng, makers=((drafts.draft, 7), (drafts.branches_draft, 3))):
+SMALL = ((drafts.draft, 7), (drafts.branches_draft, 3))
+
+
+def accepted_draft(rng, makers=SMALL):
     """A small draft, mostly one without a clash."""
     while True:
         made = rng.choices(*zip(*makers))[0](rng)
@@ -177,9 +181,9 @@ def many_disassembler_lines(rng):
     return [b"dis"], "\n".join(kernel_lines.many_words(rng)).encode()
 
 
-def joint(rng):
+def joint(rng, makers=SMALL):
     """A bundle and an output of it, each ended by a line feed."""
-    made = accepted_draft(rng)
+    made = accepted_draft(rng, makers)
     read = bundles.bundle(plain_text(made))
     output = outputs.output(rng, read.program, read.image)
     text = text_of(rng, made).rstrip(b"\n") + b"\n"
@@ -274,6 +278,93 @@ def odd_bytes(rng):
     return words, bytes(rng.choices(alphabet, k=rng.randrange(60)))
 
 
+def draft_of_version_2(rng):
+    """A draft of version 2 without a fault."""
+    make = rng.choices([version_2.joined_draft, drafts.draft, drafts.branches_draft,
+                        sharing.sharing_draft], [8, 8, 4, 1])[0]
+    made = make(rng)
+    return made if made.version == 2 else version_2.of_version_2(rng, made)
+
+
+def bundles_of_version_2(rng):
+    return rng.choice(READERS), text_of(rng, draft_of_version_2(rng))
+
+
+def joined_branches_of_version_2(rng):
+    return rng.choice(READERS + [[b"check"]]), text_of(rng, version_2.joined_draft(rng))
+
+
+def runs_of_version_2(rng):
+    return run_words(rng, 0.9), plain_text(accepted_draft(rng, ((draft_of_version_2, 1),)))
+
+
+def many_tasks_of_version_2(rng):
+    drawn = [b"run", b"--cores", rng.choice([b"2", b"8"]), b"--order", b"%d" % rng.randrange(100)]
+    return rng.choice(READERS + [drawn]), text_of(rng, version_2.many_tasks_draft(rng))
+
+
+def wide_memories_of_version_2(rng):
+    return rng.choice(READERS + [[b"check"]] * 3), text_of(rng, version_2.wide_draft(rng))
+
+
+def cycles_of_version_2(rng):
+    """A cycle, sometimes with a fault of form on the line that closes the map lines, or on one of them."""
+    lines = version_2.cyclic_draft(rng).lines()
+    closing = lines.index("[kernels]")
+    way = rng.random()
+    if way < 0.05:
+        lines.insert(closing, rng.choice(["[image]", "[kernels] x", "[end]", "[map]", "[kernels]\x01"]))
+    elif way < 0.1:
+        lines = lines[:closing]
+    elif way < 0.15:
+        lines[rng.randrange(2, closing)] += rng.choice([" x", " 0", "\x7f"])
+    return rng.choice(READERS), spelling.dressed(rng, lines)
+
+
+def names_of_version_2(rng):
+    return rng.choice(READERS), text_of(rng, version_2.names_draft(rng))
+
+
+def limits_of_version_2(rng):
+    made = drafts.limits_draft(rng, 2)
+    return [b"check"], text_of(rng, version_2.of_version_2(rng, made) if rng.random() < 0.3 else made)
+
+
+def numbers_of_version_2(rng):
+    return [b"check"], text_of(rng, drafts.numbers_draft(rng, 2))
+
+
+def regions_of_version_2(rng):
+    return [b"check"], text_of(rng, drafts.regions_draft(rng, 2))
+
+
+def images_of_version_2(rng):
+    return rng.choice(READERS[:2]), text_of(rng, drafts.images_draft(rng, 2))
+
+
+def changed_bundle_of_version_2(rng):
+    way = rng.random()
+    made = version_2.cyclic_draft(rng) if way < 0.2 else version_2.names_draft(rng) if way < 0.3 else \
+        draft_of_version_2(rng)
+    return rng.choice(READERS), mutations.changed(rng, text_of(rng, made))
+
+
+def changed_bundles_of_version_2(rng):
+    return quick(rng, changed_bundle_of_version_2)
+
+
+def verifier_inputs_of_version_2(rng):
+    bundle, output = joint(rng, ((draft_of_version_2, 1),))
+    return [b"verify"], bundle + output
+
+
+def read_as_other_version(rng):
+    """A bundle of one version that says that it is of the other, or of none."""
+    made = rng.choice([draft_of_version_2, drafts.draft, version_2.cyclic_draft])(rng)
+    made.version = rng.choice([3 - made.version, 3 - made.version, 0, 3, "0x2", "02", "2 2"])
+    return quick(rng, lambda rng: (rng.choice(READERS), text_of(rng, made)))
+
+
 KINDS = {
     whole_bundles: 20,
     runs_on_cores: 20,
@@ -304,4 +395,18 @@ KINDS = {
     generated_runs: 0.1,
     generated_counts: 0.02,
     odd_bytes: 2,
+    bundles_of_version_2: 20,
+    joined_branches_of_version_2: 20,
+    runs_of_version_2: 8,
+    many_tasks_of_version_2: 1,
+    wide_memories_of_version_2: 0.6,
+    cycles_of_version_2: 24,
+    names_of_version_2: 16,
+    limits_of_version_2: 1,
+    numbers_of_version_2: 6,
+    regions_of_version_2: 2,
+    images_of_version_2: 0.6,
+    changed_bundles_of_version_2: 24,
+    verifier_inputs_of_version_2: 8,
+    read_as_other_version: 4,
 }

@@ -5,14 +5,16 @@ import re
 from . import kernel_lines, spelling
 
 LINES = ["[map]", "[kernels]", "[image]", "[end]", "[x]", "[", "[map] x", "[kernels] [image]",
-         "[end]x", "[ end]", "plural 1", "plural 2", "plural", "plural 0x1", "plural 1 1",
+         "[end]x", "[ end]", "plural 1", "plural 2", "plural 3", "plural", "plural 0x1", "plural 1 1",
          "memory 8", "memory 16", "memory 0", "memory 12", "memory 65544", "cache 1 1", "cache 3 1",
          "cache 128 1", "cache 1 5", "cache 0 1", "cache 1 0", "cache 1", "task t regular entry e "
          "budget 9", "task t dup 0 entry e budget 9", "task t dup 2 entry e budget 0", "task t",
          "task t regular entry nowhere budget 100000001", "task 9a regular entry e budget 1",
          "task t dup 16385 entry nowhere budget 1", "task t regular entry 9a budget 0",
          "after t any", "after t 0", "after t 00", "after t 2", "after t", "after 9a any",
-         "after t any any", "read 0 0 1", "write 0 0 1", "read 0 0 0", "read 0 0", "write 7 1 1",
+         "after t any any", "join some", "join any", "join", "join some some", "memory 1048576",
+         "memory 1048584", "read 1048575 0 1", "read 1048576 0 1", "read 0 1048576 1",
+         "read 0 0 1048577", "read 0 0 1", "write 0 0 1", "read 0 0 0", "read 0 0", "write 7 1 1",
          "read 65536 0 1", "read 0 65536 1", "read 0 0 65537", "write 65535 65535 65536",
          "read 8 0 1", "readd 0 0 1", "e: ecall", "e:", "x: y: nop", "nop", "j e", "j nowhere",
          "li x5, 4294967296", "beqz x1, 4096", ".word -1", "00000000: 00000001",
@@ -28,7 +30,7 @@ LINES = ["[map]", "[kernels]", "[image]", "[end]", "[x]", "[", "[map] x", "[kern
          "\x01", "é", "\x7f", "\r", "a\rb", "", "#", "# [end]"]
 
 WORDS = ["any", "0", "1", "00", "01", "regular", "dup", "entry", "budget", "task", "after", "read",
-         "write", "memory", "cache", "log", "cores", "ended", "skipped", "failed", "run", "code",
+         "write", "join", "some", "memory", "cache", "log", "cores", "ended", "skipped", "failed", "run", "code",
          "trap", "spent", "pc", "n", "loads", "misses", "stores", "core", "from", "to", "plural",
          "[map]", "[end]"]
 

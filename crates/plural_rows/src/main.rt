@@ -8,8 +8,8 @@
 //!                an empty line stands before each row
 //! == TITLE       begins it
 //! $ WORDS        a command, which is given the row's input; each command of a row by itself
-//! ~ WORDS        a run on some cores: the entries of its text may come in any order, each with any core and any tickets
-//!                with which `verify` finds the text legal
+//! ~ WORDS        a run on some cores: the entries of its text may come in any order, each with any core and any
+//!                tickets with which `verify` finds the text legal
 //! LINE           a line of the input
 //! % N LINE       LINE stands in the place of line N of the input that a row before spelled out last
 //! => STATUS      the status that each command has to end with

@@ -69,8 +69,8 @@ fn finished<R: Threads + Sync>(
     Ok(machine.close(program))
 }
 
-/// Whether a machine of so many cores leaves the memory and the outcomes of the serial run, and an entry for each of its
-/// records.
+/// Whether a machine of so many cores leaves the memory and the outcomes of the serial run, and an entry for each of
+/// its records.
 fn runs_as_serial<R: Threads + Sync>(
     rt: &R,
     alloc: Global,
