@@ -15,7 +15,7 @@
 #include <string.h>
 #include <time.h>
 
-enum { THREADS = 64, TASKS = 64, ROUNDS = 20, FIELDS = 8, SPINS = 200000000 };
+enum { THREADS = 64, TASKS = 256, ROUNDS = 20, FIELDS = 8, SPINS = 200000000 };
 
 typedef struct {
     _Alignas(64) _Atomic uint64_t alloc;
