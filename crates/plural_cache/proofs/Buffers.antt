@@ -24,6 +24,7 @@ pair_here m pairs i d a within inside e =
     let more : sets m (take (i + 1) pairs) ≡ set (sets m (take i pairs)) s.0 s.1 = ap (λ (ps : List (ℕ × ℕ)). sets m ps) (take_at_read pairs i d within).1 ∙ sets_append m (take i pairs) (s ∷ []) in
     sym (ap (λ (n : List ℕ). get_or n a 0) more ∙ ap (λ b. get_or (set (sets m (take i pairs)) b s.1) a 0) e ∙ get_or-set_same (sets m (take i pairs)) a s.1 0 (omega (arith, length_sets m (take i pairs))))
 
+-- A pair of another word leaves it.
 pub pair_elsewhere : (m : List ℕ) (pairs : List (ℕ × ℕ)) (i : ℕ) (d : ℕ × ℕ) (a : ℕ) → i < length pairs
     → (get_or pairs i d).0 ≢ a → get_or (sets m (take i pairs)) a 0 ≡ get_or (sets m (take (i + 1) pairs)) a 0
 pair_elsewhere m pairs i d a within e =

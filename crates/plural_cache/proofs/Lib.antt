@@ -4,3 +4,4 @@ pub mod Orders
 pub mod Loads
 pub mod Stores
 pub mod Buffers
+pub mod Classes

@@ -1,6 +1,6 @@
 -- A store buffer before a bus: stores that are made but not yet written. (This project's own; no section of a
 -- standard.) A buffer is the list of its pairs of address and word, the oldest first.
-use Rattle.std.specs.Prelude.{ℕ, ◌≡◌, ◌⊎◌, ◌+◌, ◌<◌, List, [], ◌∷◌, length}
+use Rattle.std.specs.Prelude.{ℕ, ◌≡◌, ◌⊎◌, ◌+◌, ◌%◌, ◌==◌, if◌then◌else◌, ◌<◌, List, [], ◌∷◌, length, slice_index}
 use Rattle.std.specs.List.{All}
 use Rattle.plural_base.specs.Stores.{sets}
 use Rattle.plural_base.specs.Told.{Told, Counted, Foresees, told_after}
@@ -9,6 +9,16 @@ use Rattle.plural_cache.specs.Bus.{Writes}
 -- How many pairs a buffer has at most.
 abbrev pub pair_limit : ℕ
 pair_limit = 16
+
+-- How many of the pairs are of words whose address has this remainder by 64.
+abbrev pub of_class : ℕ → List (ℕ × ℕ) → ℕ
+of_class r [] = 0
+of_class r (s ∷ rest) = (if s.0 % 64 == r then 1 else 0) + of_class r rest
+
+-- These are the numbers of pairs by remainder.
+pub record AreCounted (pairs : List (ℕ × ℕ)) (counts : List ℕ) : Type 0 where
+  pub all : length counts ≡ 64
+  pub each : (r : ℕ) → r < 64 → slice_index counts r ≡ of_class r pairs
 
 -- What a bus tells once the pairs of the buffer are written to it.
 abbrev pub told_through : List (ℕ × ℕ) → Told → Told

@@ -1,5 +1,5 @@
 //! The store buffer.
-ghost use Rattle.std.specs.Prelude.{◌≡◌, ◌⊎◌, ◌<◌, ◌≤◌, ◌^◌, ℕ, List, [], ◌∷◌, ◌++◌, ◌-◌, length, take, drop, nat_lt, slice_index};
+ghost use Rattle.std.specs.Prelude.{◌≡◌, ◌⊎◌, ◌<◌, ◌≤◌, ◌^◌, ◌%◌, ℕ, List, [], ◌∷◌, ◌++◌, ◌-◌, length, take, drop, nat_lt, slice_index};
 ghost use Rattle.plural_base.specs.Stores.{sets};
 ghost use Rattle.plural_cache.specs.Buffer.{IsBufferOver, IsLate, Drains, told_through, counted_through};
 
@@ -9,22 +9,36 @@ use std::marker::Model;
 /// How many stores a buffer holds.
 const PAIRS: usize = 16;
 
+/// Into how many classes word addresses fall: those with one remainder.
+const CLASSES: usize = 64;
+
 /// The stores of a core that the memory hasn't got yet, seen as pairs of word address and word, the oldest first. It
-/// has room for 16.
+/// has room for 16. How many there are of each class is kept beside them, so that most reads of words without a store
+/// look at no pair.
 #[derive(Drop)]
 pub struct StoreBuffer {
     pairs: [(u32, u32); PAIRS],
     used: usize,
+    of_class: [u8; CLASSES],
 }
 
 impl Model for StoreBuffer {
     ghost use Rattle.std.specs.Prelude.{◌≡◌, ℕ, List, length, take, ◌≤◌};
+    ghost use Rattle.plural_cache.specs.Buffer.{AreCounted};
 
     ghost Value = { List (ℕ × ℕ) };
 
     ghost view = { λ b. take b.used b.pairs };
 
-    ghost invariant = { λ b. (b.used ≤ 16) × (length b.pairs ≡ 16) };
+    ghost invariant = { λ b. (b.used ≤ 16) × (length b.pairs ≡ 16) × AreCounted (take b.used b.pairs) b.of_class };
+}
+
+/// The class of a word address.
+#[inline(always)]
+fn class_of(a: u32) -> usize
+    ensures { result ≡ a % 64 }
+{
+    a as usize % CLASSES
 }
 
 /// Word `a` as these stores leave it, if it is `below` without them.
@@ -62,6 +76,7 @@ impl StoreBuffer {
         StoreBuffer {
             pairs: [(0, 0); PAIRS],
             used: 0,
+            of_class: [0; CLASSES],
         }
     }
 
@@ -79,6 +94,9 @@ impl StoreBuffer {
     pub(crate) fn word(&self, a: u32, below: u32) -> u32
         ensures { (m : List ℕ) → a < length m → slice_index m a ≡ below → result ≡ slice_index (sets m self.now) a }
     {
+        if self.of_class[class_of(a)] == 0 {
+            return below;
+        }
         word_after(&self.pairs[..self.used], a, below)
     }
 
@@ -90,6 +108,7 @@ impl StoreBuffer {
     {
         self.pairs[self.used] = (a, v);
         self.used += 1;
+        self.of_class[class_of(a)] += 1;
     }
 
     /// Removes the oldest store and answers it.
@@ -101,6 +120,7 @@ impl StoreBuffer {
         let oldest = self.pairs[0];
         shift_down(&mut self.pairs[..self.used]);
         self.used -= 1;
+        self.of_class[class_of(oldest.0)] -= 1;
         oldest
     }
 

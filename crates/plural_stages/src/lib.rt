@@ -9,6 +9,7 @@
 
 mod ending;
 mod engine;
+mod lent;
 mod starting;
 mod through;
 mod turning;

@@ -54,5 +54,6 @@ loop-n-preserved c =
 pub names-requires-2 : goal.names-requires-2
 names-requires-2 c = absurd (walk_ends c.args.tasks.now c.loop-n._n c.loop-n.walk.items c.requires.left c.requires.within c.loop-n.invariant.walked c.loop-n.invariant.distinct (omega arith))
 
+-- Nor does it end without an answer.
 pub returns : goal.returns
 returns c = absurd (walk_ends c.args.tasks.now c.loop-n._n c.loop-n.walk.items c.requires.left c.requires.within c.loop-n.invariant.walked c.loop-n.invariant.distinct (omega arith))
