@@ -1,6 +1,6 @@
 -- The places of labels, one more line.
 use Rattle.std.proofs.Common.{◌≡◌, ℕ, ◌+◌, ◌<◌, ◌≤◌, Bool, true, false, cond, eqb, Option, Some, None, List, [], ◌∷◌, ◌++◌, length, take, get_or, refl, ap, sym, ◌∙◌, arith, inl, inr}
-use Rattle.std.specs.Prelude.{not, bytes_eq, is_some}
+use Rattle.std.specs.Prelude.{not, bytes_eq, is_some, if◌then◌else◌}
 use Rattle.std.specs.List.{position_or_len}
 use Rattle.std.specs.Ordering.{is_eq, nat_cmp}
 use Rattle.std.specs.Cmp.Lexicographic.{slice_cmp}
@@ -90,3 +90,13 @@ known_more xs i d q old here place l o p h =
 -- The place after one more line.
 pub place_more : (xs : List Line) (i : ℕ) (d : Line) (place : ℕ) → i < length xs → place ≡ place_after (text_lines (take i xs)) → place + size_of (get_or xs i d).text.now ≡ place_after (text_lines (take (i + 1) xs))
 place_more xs i d place l p = rw p (sym (ap place_after (map_more text_line xs i d l) ∙ place_after_push (text_lines (take i xs)) (text_line (get_or xs i d))))
+
+-- What is known of a name that is told is what is known of it.
+pub told_is : (t : Bool) (a b : Option ℕ) → t ≡ true → a ≡ (if t then b else None) → a ≡ b
+told_is true a b e h = h
+told_is false a b e h = absurd (let f : false ≡ true = e in cc)
+
+-- Two names that are told alike are known alike.
+pub told_same : (t : Bool) (a b : Option ℕ) → (t ≡ true → a ≡ b) → (if t then a else None) ≡ (if t then b else None)
+told_same true a b h = h refl
+told_same false a b h = refl

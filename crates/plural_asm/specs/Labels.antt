@@ -1,5 +1,5 @@
 -- The labels of kernel lines, in order, and their places.
-use Rattle.std.specs.Prelude.{ℕ, ◌%◌, Bool, false, ◌||◌, List, Option, Some, None, take, sum_by, position, option_map, bytes_eq, nat_lt, nat_le, if◌then◌else◌, ◌==◌}
+use Rattle.std.specs.Prelude.{ℕ, ◌≡◌, ◌%◌, Bool, false, ◌||◌, List, Option, Some, None, take, sum_by, position, option_map, bytes_eq, nat_lt, nat_le, if◌then◌else◌, ◌==◌}
 use Rattle.std.specs.List.{filter_map}
 use Rattle.plural_bytes.specs.Lines.{TextLine}
 use Rattle.plural_statement.specs.Statement.{label_of, line_of}
@@ -53,3 +53,8 @@ place_of lines name = option_map (λ i. place_after (take i lines)) (position (h
 abbrev pub noted : Option ℕ → Bool → ℕ → Option ℕ
 noted (Some p) here place = Some p
 noted None here place = if here then Some place else None
+
+-- What was kept of a place, if anything, is the place.
+abbrev pub AgreesWith : Option ℕ → Option ℕ → Type 0
+AgreesWith None place = Unit {0}
+AgreesWith (Some p) place = place ≡ Some p

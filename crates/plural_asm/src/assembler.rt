@@ -8,7 +8,7 @@ ghost use Rattle.plural_asm.specs.Rules.{Breaks, Faults};
 
 use crate::object::{AsmError, Object};
 use crate::offset::target_offset;
-use crate::places::{note_label, places, words_in};
+use crate::places::{Places, note_label, words_in};
 use crate::verdict::verdict;
 use crate::words::{put_label, put_words};
 use plural_bytes::{Line, Memory};
@@ -33,7 +33,7 @@ pub fn assemble(alloc: Global, lines: &[Line<'_>]) -> Result<Object, AsmError>
         × (o.1 ≡ labels_of (text_lines lines.now)))
         (λ e. Faults (text_lines lines.now) e) }
 {
-    let all = places(alloc, lines)?;
+    let all = Places::of(alloc, lines)?;
     let mut earlier = BTreeMap::new(alloc);
     let mut words = Vec::new(alloc);
     let mut labels = Vec::new(alloc);

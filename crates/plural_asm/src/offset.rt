@@ -1,15 +1,13 @@
 //! The offset of a target from a place.
 
 ghost use Rattle.std.specs.Prelude.{◌≡◌, ◌≤◌, ◌*◌, ◌%◌, None, pos, neg_ℤ, ◌-ℤ◌};
-ghost use Rattle.std.specs.BTreeMap.{get_by};
-ghost use Rattle.std.specs.Cmp.Lexicographic.{slice_cmp};
-ghost use Rattle.std.specs.Ordering.{nat_cmp};
 ghost use Rattle.plural_statement.specs.declared.statement.Target.TheVariants as target;
+ghost use Rattle.plural_asm.specs.Labels.{place_of};
 ghost use Rattle.plural_asm.specs.Words.{is_near, reaches, offset_in, offset_at, IsReached, target_offset};
 
+use crate::places::Places;
 use plural_bytes::Name;
 use plural_statement::{Statement, Target};
-use std::collections::BTreeMap;
 
 /// How far a jump and a branch reach: from `-half` to `half - 2`, in bytes.
 pub(crate) const JUMP_HALF: u32 = 1_048_576;
@@ -56,12 +54,6 @@ fn offset_in(bytes: i64, half: u32) -> Offset
     } else {
         Offset::Far
     }
-}
-
-fn place_at(places: &BTreeMap<Name, u64>, name: Name) -> Option<u64>
-    ensures { result ≡ get_by (λ k. slice_cmp nat_cmp name k) places.now }
-{
-    places.get(&name).copied()
 }
 
 fn numeral_offset(bytes: Option<i32>, half: u32) -> Offset
@@ -119,14 +111,14 @@ fn distance(place: u64, here: u32, half: u32) -> Offset
     }
 }
 
-fn label_offset(places: &BTreeMap<Name, u64>, here: u32, half: u32, name: Name) -> Offset
+fn label_offset(places: &Places<'_>, here: u32, half: u32, name: Name) -> Offset
     requires even { half % 2 ≡ 0 }
     requires half { half ≤ 1048576 }
     ensures value { result
-        ≡ offset_at (λ q. get_by (λ k. slice_cmp nat_cmp q k) places.now) here half (target.Label name) }
+        ≡ offset_at (λ q. place_of places.now q) here half (target.Label name) }
     ensures reached { IsReached half result }
 {
-    match place_at(places, name) {
+    match places.get(&name) {
         None => Offset::Unknown,
         Some(place) => distance(place, here, half),
     }
@@ -134,15 +126,10 @@ fn label_offset(places: &BTreeMap<Name, u64>, here: u32, half: u32, name: Name) 
 
 /// The offset of a target from the place `here`, in words, for an instruction that reaches from
 /// `-half` to `half - 1` bytes.
-pub(crate) fn offset_at(
-    places: &BTreeMap<Name, u64>,
-    here: u32,
-    half: u32,
-    target: Target,
-) -> Offset
+pub(crate) fn offset_at(places: &Places<'_>, here: u32, half: u32, target: Target) -> Offset
     requires even { half % 2 ≡ 0 }
     requires half { half ≤ 1048576 }
-    ensures value { result ≡ offset_at (λ q. get_by (λ k. slice_cmp nat_cmp q k) places.now) here half target }
+    ensures value { result ≡ offset_at (λ q. place_of places.now q) here half target }
     ensures reached { IsReached half result }
 {
     match target {
@@ -153,11 +140,11 @@ pub(crate) fn offset_at(
 
 /// The offset of an instruction's target, if it has a target.
 pub(crate) fn target_offset(
-    places: &BTreeMap<Name, u64>,
+    places: &Places<'_>,
     here: u32,
     statement: Option<Statement>,
 ) -> Option<Offset>
-    ensures { result ≡ target_offset (λ q. get_by (λ k. slice_cmp nat_cmp q k) places.now) here statement }
+    ensures { result ≡ target_offset (λ q. place_of places.now q) here statement }
 {
     match statement {
         Some(Statement::Jump { target, .. }) => { Some(offset_at(places, here, JUMP_HALF, target)) }

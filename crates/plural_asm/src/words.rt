@@ -1,22 +1,19 @@
 //! The words of an instruction at a place.
 
 ghost use Rattle.std.specs.Prelude.{◌≡◌, ◌≤◌, ◌<◌, ◌++◌, [], ◌∷◌, Some, None, unwrap_or, OnOk};
-ghost use Rattle.std.specs.BTreeMap.{get_by};
-ghost use Rattle.std.specs.Cmp.Lexicographic.{slice_cmp};
-ghost use Rattle.std.specs.Ordering.{nat_cmp};
 ghost use Rattle.plural_isa.specs.Encoding.{IsWithin, word_of};
 ghost use Rattle.plural_isa.specs.declared.instr.Instr.TheVariants as instr;
 ghost use Rattle.plural_isa.specs.declared.instr.ImmOp.TheVariants as imm;
 ghost use Rattle.plural_statement.specs.declared.statement.Statement.TheVariants.{Li};
+ghost use Rattle.plural_asm.specs.Labels.{place_of};
 ghost use Rattle.plural_asm.specs.Words.{IsReached, low_part, high_part, li_words, jump_word, branch_word, words_at, label_at};
 
 use crate::object::Label;
 use crate::offset::{BRANCH_HALF, JUMP_HALF, Offset, offset_at};
-use crate::places::is_short;
+use crate::places::{Places, is_short};
 use plural_bytes::{Memory, Name};
 use plural_isa::{BranchOp, ImmOp, Instr, Reg, encode};
 use plural_statement::Statement;
-use std::collections::BTreeMap;
 
 fn low_part(word: u32) -> i32
     ensures value { result ≡ low_part word }
@@ -122,12 +119,12 @@ fn put_value(words: &mut Vec<u32>, rd: Reg, value: Option<u32>) -> Result<(), Me
 
 fn put_statement(
     words: &mut Vec<u32>,
-    places: &BTreeMap<Name, u64>,
+    places: &Places<'_>,
     here: u32,
     statement: Statement,
 ) -> Result<(), Memory>
     ensures { OnOk result (words.new.items
-        ≡ words.old.items ++ words_at (λ q. get_by (λ k. slice_cmp nat_cmp q k) places.now) here (Some statement)) }
+        ≡ words.old.items ++ words_at (λ q. place_of places.now q) here (Some statement)) }
 {
     match statement {
         Statement::Nothing => Ok(()),
@@ -152,12 +149,12 @@ fn put_statement(
 /// Appends the words of an instruction at the place `here`; 0 stands for one that has a fault.
 pub(crate) fn put_words(
     words: &mut Vec<u32>,
-    places: &BTreeMap<Name, u64>,
+    places: &Places<'_>,
     here: u32,
     statement: Option<Statement>,
 ) -> Result<(), Memory>
     ensures { OnOk result (words.new.items
-        ≡ words.old.items ++ words_at (λ q. get_by (λ k. slice_cmp nat_cmp q k) places.now) here statement) }
+        ≡ words.old.items ++ words_at (λ q. place_of places.now q) here statement) }
 {
     match statement {
         Some(statement) => put_statement(words, places, here, statement),
